@@ -1,0 +1,32 @@
+use lib.ListN.{length-set}
+use Rattle.number.specs.Number.{withNumber}
+use native.Mathlib.Omega.{arith}
+use borrow.Author.Needs.{needs}
+use Rattle.number.proofs.put_u16.Statement.{statement}
+use Rattle.number.proofs.put_u16.Tie as tie
+
+cast-t : tie.Need-cast-t
+cast-t c = search needs
+
+slice-write-t : tie.Need-slice-write-t
+slice-write-t c = search needs
+
+cast-t-2 : tie.Need-cast-t-2
+cast-t-2 c = search needs
+
+add-t : tie.Need-add-t
+add-t c = search needs
+
+slice-write-t-2 : tie.Need-slice-write-t-2
+slice-write-t-2 c = simp length-set (omega arith)
+
+same-length : tie.Need-same-length
+same-length c = search needs
+
+returns : tie.Need-returns
+unfolding withNumber
+returns c = search needs
+
+pub put-u16-spec : {M : Type 1} → statement M
+put-u16-spec =
+    tie.close (tie.spec cast-t slice-write-t cast-t-2 add-t slice-write-t-2 same-length returns)

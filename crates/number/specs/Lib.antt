@@ -1,0 +1,3 @@
+-- Numbers in lent bytes, low byte first: what they are, and what a write leaves as it was.
+pub mod Number
+pub mod Frame

@@ -1,0 +1,58 @@
+#!/usr/bin/env bash
+# Passes every test of the repository, and installs what it needs: the layout, every proof from nothing, every must-fail
+# edit and the reason it was refused for, every program's output, and the comparisons with the independent model, part by
+# part and whole, from C and from Rust.
+# Its last line is 'N passed, M failed', summed over all of it; it exits non-zero if anything failed.
+set -u
+cd "$(dirname "$0")/.."
+passed=0 failed=0
+
+say() { printf '\n== %s\n' "$*"; }
+
+# Adds a step's own 'N passed, M failed' line, the last in its log, to the sum. A step without one, or that ended badly
+# without a failure of its own, is a failure.
+add() { # STATUS LOG
+    local line n m
+    line=$(grep -E '^[0-9]+ passed, [0-9]+ failed$' "$2" | tail -n 1)
+    n=${line%% *} m=${line#*, } m=${m%% *}
+    [ -n "$line" ] || { n=0 m=1; echo "no count: $2"; }
+    [ "$1" -eq 0 ] || [ "$m" -gt 0 ] || m=1
+    passed=$((passed + n)) failed=$((failed + m))
+}
+
+# One step that only passes or fails.
+step() { # NAME COMMAND..
+    local name=$1
+    shift
+    if "$@"; then passed=$((passed + 1)); else failed=$((failed + 1)); echo "FAILED: $name"; fi
+}
+
+finish() {
+    echo
+    echo "$passed passed, $failed failed"
+    [ "$failed" -eq 0 ] || exit 1
+    exit 0
+}
+
+logs=$(mktemp -d)
+trap 'rm -rf "$logs"' EXIT
+
+say "what it needs"
+bash tools/setup.sh || { failed=1; finish; }
+
+say "layout"
+step "rt fmt --check" rt fmt --check
+
+say "proofs, must-fail edits, programs"
+rt ci 2>&1 | tee "$logs/ci"
+add "${PIPESTATUS[0]}" "$logs/ci"
+
+say "must-fail edits are refused for a fact"
+bash tools/facts.sh 2>&1 | tee "$logs/facts"
+add "${PIPESTATUS[0]}" "$logs/facts"
+
+say "the proved code against the independent model"
+bash tools/compare.sh 2>&1 | tee "$logs/compare"
+add "${PIPESTATUS[0]}" "$logs/compare"
+
+finish
