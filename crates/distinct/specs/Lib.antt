@@ -1,0 +1,3 @@
+-- What it is that keys are distinct, and how one key is seated among cells.
+pub mod Distinct
+pub mod Seat

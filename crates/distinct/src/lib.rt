@@ -1,0 +1,87 @@
+// Whether keys are all different, near linear and without heap.
+ghost use mathlib.Core.Path.{_≡_};
+ghost use Prim.Native.Nat.{_≤_, _<_};
+ghost use lib.ListN.{length, getD};
+ghost use Rattle.distinct.specs.Distinct.{mostKeys, distinctTo};
+ghost use Rattle.distinct.specs.Seat.{Seated, cellCount, startOf, seated};
+
+// A table has at most this many records.
+const KEYS: usize = 1024;
+
+// How many cells there are, four for a key, and how many of them a key looks at.
+const CELLS: usize = 4096;
+
+const PROBES: usize = 32;
+
+// What comes of seating a key: it took an empty cell, it was there before, or too many other keys stood in its way.
+enum Seat {
+    Fresh,
+    Seen,
+    Crowded,
+}
+
+// Where a key's cells begin: a multiplicative hash, which spreads keys that lie close together.
+fn start(key: u32) -> usize
+    ensures { λ r. ⌜ (r ≡ startOf key) × (r < cellCount) ⌝ }
+{
+    ((key as u64) * 2654435769 / 1048576) as usize % CELLS
+}
+
+// Seats a key in the first empty one of its cells. At each turn the d cells passed hold other keys.
+// A key of 0 leaves the empty cell empty, so that it needs no test of its own, which would be hard to predict.
+fn seat_key(cells: &mut [u32; CELLS], key: u32) -> Seat
+    ensures { λ r. ⌜ record { seat = r; cells = now (cells .exit) } ≡ seated (now (cells .entry)) key ⌝ }
+{
+    let first = start(key);
+    let mut d = 0;
+    while d < PROBES {
+        let at = (first + d) % CELLS;
+        let cell = cells[at];
+        if cell == 0 {
+            cells[at] = key;
+            return Seat::Fresh;
+        }
+        if cell == key {
+            return Seat::Seen;
+        }
+        d += 1;
+    }
+    Seat::Crowded
+}
+
+// The same question by sorting: the first m kept are those of the first i keys that are not 0.
+fn by_order(keys: &[u32]) -> bool
+    requires { ⌜ length (now keys) ≤ mostKeys ⌝ }
+    ensures { λ r. ⌜ r ≡ distinctTo (length (now (keys .entry))) (λ i. getD (now (keys .entry)) i 0) ⌝ }
+{
+    let mut kept = [0u64; KEYS];
+    let mut room = [0u64; KEYS];
+    let mut m = 0;
+    for i in 0..keys.len() {
+        let key = keys[i];
+        if key != 0 {
+            kept[m] = key as u64;
+            m += 1;
+        }
+    }
+    order::all_different(&mut kept[..m], &mut room)
+}
+
+// Are the keys all different, 0 aside? At each turn the first i are, and the cells hold just those.
+// A key that finds no seat sends the whole question to the sort, so that no choice of keys makes this slow.
+pub fn all_distinct(keys: &[u32]) -> bool
+    requires { ⌜ length (now keys) ≤ mostKeys ⌝ }
+    ensures { λ r. ⌜ r ≡ distinctTo (length (now (keys .entry))) (λ i. getD (now (keys .entry)) i 0) ⌝ }
+{
+    let mut cells = [0u32; CELLS];
+    let mut i = 0;
+    while i < keys.len() {
+        match seat_key(&mut cells, keys[i]) {
+            Seat::Fresh => {}
+            Seat::Seen => return false,
+            Seat::Crowded => return by_order(keys),
+        }
+        i += 1;
+    }
+    true
+}

@@ -1,0 +1,5 @@
+-- What the proofs of the functions stand on: one turn of each loop, over plain lists.
+mod Insertion
+mod Merging
+mod Halves
+mod Look
