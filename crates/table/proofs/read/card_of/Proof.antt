@@ -1,0 +1,18 @@
+-- `table::card_of` meets its contract: what is read is that field of the record. Assumes nothing.
+use Rattle.table.specs.Record.{recordOf}
+use borrow.Author.Needs.{needs}
+use Rattle.table.proofs.read.card_of.Statement.{statement}
+use Rattle.table.proofs.read.card_of.Tie as tie
+
+mul-get-u32 : tie.Need-mul-get-u32
+mul-get-u32 c = search needs
+
+get-u32-requires : tie.Need-get-u32-requires
+get-u32-requires c κs = search needs
+
+returns : tie.Need-returns
+unfolding recordOf
+returns c = search needs
+
+pub card-of-spec : {M : Type 1} → statement M
+card-of-spec = tie.close (tie.spec mul-get-u32 get-u32-requires returns)

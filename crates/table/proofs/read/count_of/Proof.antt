@@ -1,0 +1,21 @@
+-- `table::count_of` meets its contract: what is read is that field of the record. Assumes nothing.
+use Rattle.table.specs.Record.{recordOf}
+use borrow.Author.Needs.{needs}
+use Rattle.table.proofs.read.count_of.Statement.{statement}
+use Rattle.table.proofs.read.count_of.Tie as tie
+
+mul-result : tie.Need-mul-result
+mul-result c = search needs
+
+add-result : tie.Need-add-result
+add-result c = search needs
+
+shared-slice-read-result : tie.Need-shared-slice-read-result
+shared-slice-read-result c = search needs
+
+returns : tie.Need-returns
+unfolding recordOf
+returns c = search needs
+
+pub count-of-spec : {M : Type 1} → statement M
+count-of-spec = tie.close (tie.spec mul-result add-result shared-slice-read-result returns)

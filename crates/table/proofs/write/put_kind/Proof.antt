@@ -1,0 +1,24 @@
+-- `table::put_kind` meets its contract: the bytes written are those of the field. Assumes nothing.
+use Rattle.table.specs.Put.{putKind}
+use borrow.Author.Needs.{needs}
+use Rattle.table.proofs.write.put_kind.Statement.{statement}
+use Rattle.table.proofs.write.put_kind.Tie as tie
+
+mul-t : tie.Need-mul-t
+mul-t c = search needs
+
+add-t : tie.Need-add-t
+add-t c = search needs
+
+slice-write-t : tie.Need-slice-write-t
+slice-write-t c = search needs
+
+same-length : tie.Need-same-length
+same-length c = search needs
+
+returns : tie.Need-returns
+unfolding putKind
+returns c = search needs
+
+pub put-kind-spec : {M : Type 1} → statement M
+put-kind-spec = tie.close (tie.spec mul-t add-t slice-write-t same-length returns)

@@ -1,0 +1,24 @@
+-- `table::put_parent` meets its contract: the bytes written are those of the field. Assumes nothing.
+use Rattle.table.specs.Put.{putParent}
+use borrow.Author.Needs.{needs}
+use Rattle.table.proofs.write.put_parent.Statement.{statement}
+use Rattle.table.proofs.write.put_parent.Tie as tie
+
+mul-put-u16 : tie.Need-mul-put-u16
+mul-put-u16 c = search needs
+
+add-put-u16 : tie.Need-add-put-u16
+add-put-u16 c = search needs
+
+put-u16-requires : tie.Need-put-u16-requires
+put-u16-requires c κs = search needs
+
+same-length : tie.Need-same-length
+same-length c = search needs
+
+returns : tie.Need-returns
+unfolding putParent
+returns c = search needs
+
+pub put-parent-spec : {M : Type 1} → statement M
+put-parent-spec = tie.close (tie.spec mul-put-u16 add-put-u16 put-u16-requires same-length returns)

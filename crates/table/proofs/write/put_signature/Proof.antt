@@ -1,0 +1,88 @@
+-- `table::put_signature` meets its contract. The loop's invariant: the first k readings are written. Assumes nothing.
+use Prim.Native.Nat.{_≤_, _-_}
+use mathlib.Core.Path.{_≡_, refl, _∙_}
+use lib.ListN.{length}
+use Rattle.table.specs.Record.{signatureAt}
+use Rattle.table.specs.Put.{putReadings, putSignature}
+use Rattle.table.specs.Run.{readings-more}
+use native.Mathlib.Omega.{arith}
+use borrow.Author.Needs.{needs}
+use Rattle.table.proofs.write.put_signature.Statement.{statement}
+use Rattle.table.proofs.write.put_signature.Tie as tie
+
+abbrev Inv-loop : tie.InvT-loop
+Inv-loop t₀ s v k₀ t k = (k ≤ 16) × (length t ≡ length t₀) × (t ≡ putReadings k t₀ (signatureAt s) (v .readings))
+
+abbrev μ-loop : tie.MeasureT-loop
+μ-loop t₀ s v k₀ t k = 16 - k
+
+loop-holds : tie.Need-loop-holds Inv-loop μ-loop
+unfolding putReadings
+loop-holds c = search needs
+
+mul-put-u16 : tie.Need-mul-put-u16 Inv-loop μ-loop
+mul-put-u16 c = search needs
+
+add-put-u16 : tie.Need-add-put-u16 Inv-loop μ-loop
+add-put-u16 c = search needs
+
+mul-put-u16-2 : tie.Need-mul-put-u16-2 Inv-loop μ-loop
+mul-put-u16-2 c = search needs
+
+add-put-u16-2 : tie.Need-add-put-u16-2 Inv-loop μ-loop
+add-put-u16-2 c = search needs
+
+mul-put-u16-3 : tie.Need-mul-put-u16-3 Inv-loop μ-loop
+mul-put-u16-3 c = search needs
+
+element-copy-out-put-u16 : tie.Need-element-copy-out-put-u16 Inv-loop μ-loop
+element-copy-out-put-u16 c = search needs
+
+put-u16-requires : tie.Need-put-u16-requires Inv-loop μ-loop
+put-u16-requires c κs = search needs
+
+add-k : tie.Need-add-k Inv-loop μ-loop
+add-k c = search needs
+
+loop-less : tie.Need-loop-less Inv-loop μ-loop
+loop-less c = search needs
+
+loop-again : tie.Need-loop-again Inv-loop μ-loop
+loop-again c =
+    let l = c .before .before .before .before .before .before .loop in
+    let a = c .before .before .before .before .before .before .before .before .args in (
+      omega arith,
+      search needs,
+      c .before .before .put-u16 .ensures
+          ∙ readings-more (a .t .now) (signatureAt (a .s)) (a .t3 .readings) (l .k) (l .t) _ (l .inv .2) refl,
+    )
+
+same-length : tie.Need-same-length Inv-loop μ-loop
+same-length c = search needs
+
+returns : tie.Need-returns Inv-loop μ-loop
+unfolding putSignature
+returns c =
+    let l = c .before .loop in
+    let e : l .k ≡ 16 = omega arith in
+    rw e at (l .inv .2)
+
+pub put-signature-spec : {M : Type 1} → statement M
+put-signature-spec =
+    tie.close
+    (tie.spec
+    Inv-loop
+    μ-loop
+    loop-holds
+    mul-put-u16
+    add-put-u16
+    mul-put-u16-2
+    add-put-u16-2
+    mul-put-u16-3
+    element-copy-out-put-u16
+    put-u16-requires
+    add-k
+    loop-less
+    loop-again
+    same-length
+    returns)

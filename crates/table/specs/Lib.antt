@@ -1,0 +1,14 @@
+-- The record and the table: where each field stands, and what a table of bytes means.
+-- Definitions.
+pub mod Record
+pub mod Table
+pub mod Put
+pub mod Clear
+-- Laws: bytes and the records they hold, what each write does, and back again.
+pub mod Cases
+pub mod Span
+pub mod Same
+pub mod Records
+pub mod Run
+pub mod Laws
+pub mod RoundTrip

@@ -1,0 +1,116 @@
+-- "The record, 64 bytes, no header": its fields, and where each stands. Other files take the places from here.
+use Prim.Native.Nat.{ℕ, _+_, _*_, _≤_}
+use mathlib.Core.List.{List}
+use mathlib.Core.Bool.{Bool}
+use lib.Dec.{leb}
+use lib.ListN.{getD, take, replicate}
+use Rattle.places.specs.Row.{rowTo}
+use Rattle.number.specs.Number.{numberAt}
+use Rattle.distance.specs.Signature.{readingsAt}
+
+-- ---- what a record holds
+
+pub record Record : Type 0 where
+  pub card : ℕ
+  pub timestamp : ℕ
+  pub radius : ℕ
+  pub parent : ℕ
+  pub count : ℕ
+  pub kind : ℕ
+  pub slots : List ℕ
+  pub readings : List ℕ
+
+-- "65,535 for the root", and past the count of children
+abbrev pub noSlot : ℕ
+noSlot = 65535
+
+-- "A free record is 64 zero bytes"
+abbrev pub free : Record
+free =
+    record {
+      card = 0;
+      timestamp = 0;
+      radius = 0;
+      parent = 0;
+      count = 0;
+      kind = 0;
+      slots = replicate 8 0;
+      readings = replicate 16 0;
+    }
+
+-- a record is used if it has a card
+abbrev pub Used : Record → Type 0
+Used r = 1 ≤ r .card
+
+abbrev pub used : Record → Bool
+used r = leb 1 (r .card)
+
+-- child slot i, counted from 0
+abbrev pub slot : Record → ℕ → ℕ
+slot r i = getD (r .slots) i 0
+
+-- the child slots within the count, oldest child first
+abbrev pub children : Record → List ℕ
+children r = take (r .count) (r .slots)
+
+-- ---- where it stands
+
+-- the length of a record, and the most records a table has
+abbrev pub recordLength : ℕ
+recordLength = 64
+
+abbrev pub mostRecords : ℕ
+mostRecords = 1024
+
+-- where the fields of the record in slot s start
+
+-- bytes 0 to 3
+abbrev pub cardAt : ℕ → ℕ
+cardAt s = s * 64
+
+-- bytes 4 to 7
+abbrev pub timestampAt : ℕ → ℕ
+timestampAt s = s * 64 + 4
+
+-- bytes 8 to 11
+abbrev pub radiusAt : ℕ → ℕ
+radiusAt s = s * 64 + 8
+
+-- bytes 12 and 13
+abbrev pub parentAt : ℕ → ℕ
+parentAt s = s * 64 + 12
+
+-- byte 14
+abbrev pub countAt : ℕ → ℕ
+countAt s = s * 64 + 14
+
+-- byte 15
+abbrev pub kindAt : ℕ → ℕ
+kindAt s = s * 64 + 15
+
+-- bytes 16 to 31, two for each child slot
+abbrev pub slotsAt : ℕ → ℕ
+slotsAt s = s * 64 + 16
+
+-- bytes 32 to 63
+abbrev pub signatureAt : ℕ → ℕ
+signatureAt s = s * 64 + 32
+
+-- ---- reading it
+
+abbrev pub slotsOf : List ℕ → ℕ → List ℕ
+slotsOf l s = rowTo 8 (λ i. numberAt 2 l (slotsAt s + 2 * i))
+
+-- the record in slot s of the bytes l
+unfoldable pub recordOf : List ℕ → ℕ → Record
+recordOf l s =
+    record {
+      card = numberAt 4 l (cardAt s);
+      timestamp = numberAt 4 l (timestampAt s);
+      radius = numberAt 4 l (radiusAt s);
+      parent = numberAt 2 l (parentAt s);
+      count = getD l (countAt s) 0;
+      kind = getD l (kindAt s) 0;
+      slots = slotsOf l s;
+      readings = readingsAt l (signatureAt s);
+    }

@@ -1,0 +1,85 @@
+// The fields of the record in slot s, read where they stand.
+ghost use mathlib.Core.Path.{_≡_};
+ghost use Prim.Native.Nat.{_+_, _*_, _≤_, _<_};
+ghost use lib.ListN.{length};
+ghost use Rattle.table.specs.Record.{recordOf, slot};
+ghost use Rattle.table.specs.Same.{TellsFree};
+use super::COUNT;
+use super::KIND;
+use super::PARENT;
+use super::RADIUS;
+use super::RECORD;
+use super::SIGNATURE;
+use super::SLOTS;
+use super::TIMESTAMP;
+use distance::Signature;
+
+pub fn card_of(t: &[u8], s: usize) -> u32
+    requires { ⌜ s * 64 + 64 ≤ length (now t) ⌝ }
+    ensures { λ r. ⌜ r ≡ recordOf (now (t .entry)) s .card ⌝ }
+{
+    number::get_u32(t, s * RECORD)
+}
+
+pub fn timestamp_of(t: &[u8], s: usize) -> u32
+    requires { ⌜ s * 64 + 64 ≤ length (now t) ⌝ }
+    ensures { λ r. ⌜ r ≡ recordOf (now (t .entry)) s .timestamp ⌝ }
+{
+    number::get_u32(t, s * RECORD + TIMESTAMP)
+}
+
+pub fn radius_of(t: &[u8], s: usize) -> u32
+    requires { ⌜ s * 64 + 64 ≤ length (now t) ⌝ }
+    ensures { λ r. ⌜ r ≡ recordOf (now (t .entry)) s .radius ⌝ }
+{
+    number::get_u32(t, s * RECORD + RADIUS)
+}
+
+pub fn parent_of(t: &[u8], s: usize) -> u16
+    requires { ⌜ s * 64 + 64 ≤ length (now t) ⌝ }
+    ensures { λ r. ⌜ r ≡ recordOf (now (t .entry)) s .parent ⌝ }
+{
+    number::get_u16(t, s * RECORD + PARENT)
+}
+
+pub fn count_of(t: &[u8], s: usize) -> u8
+    requires { ⌜ s * 64 + 64 ≤ length (now t) ⌝ }
+    ensures { λ r. ⌜ r ≡ recordOf (now (t .entry)) s .count ⌝ }
+{
+    t[s * RECORD + COUNT]
+}
+
+pub fn kind_of(t: &[u8], s: usize) -> u8
+    requires { ⌜ s * 64 + 64 ≤ length (now t) ⌝ }
+    ensures { λ r. ⌜ r ≡ recordOf (now (t .entry)) s .kind ⌝ }
+{
+    t[s * RECORD + KIND]
+}
+
+// Child slot i, counted from 0.
+pub fn slot_of(t: &[u8], s: usize, i: usize) -> u16
+    requires { ⌜ (s * 64 + 64 ≤ length (now t)) × (i < 8) ⌝ }
+    ensures { λ r. ⌜ r ≡ slot (recordOf (now (t .entry)) s) i ⌝ }
+{
+    number::get_u16(t, s * RECORD + SLOTS + 2 * i)
+}
+
+pub fn signature_of(t: &[u8], s: usize) -> Signature
+    requires { ⌜ s * 64 + 64 ≤ length (now t) ⌝ }
+    ensures { λ r. ⌜ r .readings ≡ recordOf (now (t .entry)) s .readings ⌝ }
+{
+    distance::signature_at(t, s * RECORD + SIGNATURE)
+}
+
+// Whether the record is free, that is, all zero. At each turn its first k words of eight bytes are zero.
+pub fn is_free(t: &[u8], s: usize) -> bool
+    requires { ⌜ s * 64 + 64 ≤ length (now t) ⌝ }
+    ensures { λ r. ⌜ TellsFree (now (t .entry)) s r ⌝ }
+{
+    for k in 0..8usize {
+        if number::get_u64(t, s * RECORD + 8 * k) != 0 {
+            return false;
+        }
+    }
+    true
+}
