@@ -1,0 +1,131 @@
+-- `judge::links::children_ok` meets its contract. The loop's invariant: the i children passed are linked to s, and
+-- `before` is the last one's timestamp, at first the record's own. Assumes nothing.
+use Prim.Native.Nat.{_≤_, _-_}
+use Rattle.table.specs.Record.{recordOf}
+use Rattle.judge.specs.Pass.{LinkedTo, linked-start, linked-out, linked-not, linked-turn, linked-end}
+use native.Mathlib.Omega.{arith}
+use borrow.Author.Needs.{needs}
+use Rattle.judge.proofs.links.children_ok.Statement.{statement}
+use Rattle.judge.proofs.links.children_ok.Tie as tie
+
+abbrev Inv-loop : tie.InvT-loop
+Inv-loop t n s count timestamp before₀ i₀ before i =
+    (i ≤ count) × LinkedTo n (recordOf t) s i before
+
+abbrev μ-loop : tie.MeasureT-loop
+μ-loop t n s count timestamp before₀ i₀ before i = count - i
+
+loop-holds : tie.Need-loop-holds Inv-loop μ-loop
+loop-holds c = (
+  omega arith,
+  rw (c .before .pre .4) (linked-start (c .before .args .n) (recordOf (c .before .args .t .now)) (c .before .args .s)),
+)
+
+slot-of-requires : tie.Need-slot-of-requires Inv-loop μ-loop
+slot-of-requires c κs = search needs
+
+cast-c : tie.Need-cast-c Inv-loop μ-loop
+cast-c c = search needs
+
+returns : tie.Need-returns Inv-loop μ-loop
+returns c =
+    let a = c .before .before .before .before .before .args in
+    let child = c .before .slot-of in
+    let l = c .before .before .before .loop in
+    linked-out
+    (a .n)
+    (recordOf (a .t .now))
+    (a .s)
+    (l .i)
+    (l .before)
+    (child .result)
+    (child .ensures)
+    (omega arith)
+    (omega arith)
+
+timestamp-of-requires : tie.Need-timestamp-of-requires Inv-loop μ-loop
+timestamp-of-requires c κs = search needs
+
+parent-of-requires : tie.Need-parent-of-requires Inv-loop μ-loop
+parent-of-requires c κs = search needs
+
+cast-if2 : tie.Need-cast-if2 Inv-loop μ-loop
+cast-if2 c = search needs
+
+returns-2 : tie.Need-returns-2 Inv-loop μ-loop
+returns-2 c =
+    let looked = c .before .before in
+    let child = looked .before .before .slot-of in
+    let l = looked .before .before .before .before .loop in
+    let a = looked .before .before .before .before .before .before .args in
+    linked-not
+    (a .n)
+    (recordOf (a .t .now))
+    (a .s)
+    (l .i)
+    (l .before)
+    (child .result)
+    (child .ensures)
+    (c .before .parent-of .result)
+    (looked .timestamp-of .result)
+    (omega arith)
+    (c .before .parent-of .ensures)
+    (looked .timestamp-of .ensures)
+    (l .inv .1)
+    (omega arith)
+    (c .if2 .taken)
+
+add-i : tie.Need-add-i Inv-loop μ-loop
+add-i c = search needs
+
+loop-less : tie.Need-loop-less Inv-loop μ-loop
+loop-less c = search needs
+
+loop-again : tie.Need-loop-again Inv-loop μ-loop
+loop-again c =
+    let looked = c .before .before in
+    let child = looked .before .before .slot-of in
+    let l = looked .before .before .before .before .loop in
+    let a = looked .before .before .before .before .before .before .args in (
+      omega arith,
+      linked-turn
+          (a .n)
+          (recordOf (a .t .now))
+          (a .s)
+          (l .i)
+          (l .before)
+          (child .result)
+          (child .ensures)
+          (c .before .parent-of .result)
+          (looked .timestamp-of .result)
+          (omega arith)
+          (c .before .parent-of .ensures)
+          (looked .timestamp-of .ensures)
+          (l .inv .1)
+          (c .if2 .left),
+    )
+
+returns-3 : tie.Need-returns-3 Inv-loop μ-loop
+returns-3 c =
+    let a = c .before .before .before .args in
+    let l = c .before .loop in
+    linked-end (a .n) (recordOf (a .t .now)) (a .s) (l .i) (l .before) (omega arith) (l .inv .1)
+
+pub children-ok-spec : {M : Type 1} → statement M
+children-ok-spec =
+    tie.close
+    (tie.spec
+    Inv-loop
+    μ-loop
+    loop-holds
+    slot-of-requires
+    cast-c
+    returns
+    timestamp-of-requires
+    parent-of-requires
+    cast-if2
+    returns-2
+    add-i
+    loop-less
+    loop-again
+    returns-3)

@@ -1,0 +1,41 @@
+-- `judge::links::links` meets its contract. The loop's invariant: it has seen the records before s. Assumes nothing.
+use Prim.Native.Nat.{ℕ, _≤_, _-_}
+use mathlib.Core.Path.{_≡_, subst}
+use Rattle.table.specs.Record.{recordOf}
+use Rattle.judge.specs.Seen.{Passed, passed-none}
+use native.Mathlib.Omega.{arith}
+use borrow.Author.Needs.{needs}
+use Rattle.judge.proofs.links.links.Statement.{statement}
+use Rattle.judge.proofs.links.links.Tie as tie
+
+abbrev Inv-loop : tie.InvT-loop
+Inv-loop t n seen₀ s₀ seen s = (s ≤ n) × Passed n (recordOf t) s seen
+
+abbrev μ-loop : tie.MeasureT-loop
+μ-loop t n seen₀ s₀ seen s = n - s
+
+loop-holds : tie.Need-loop-holds Inv-loop μ-loop
+loop-holds c = (omega arith, passed-none (c .before .args .n) (recordOf (c .before .args .t .now)))
+
+look-requires : tie.Need-look-requires Inv-loop μ-loop
+look-requires c κs = search needs
+
+add-s : tie.Need-add-s Inv-loop μ-loop
+add-s c = search needs
+
+loop-less : tie.Need-loop-less Inv-loop μ-loop
+loop-less c = search needs
+
+loop-again : tie.Need-loop-again Inv-loop μ-loop
+loop-again c = search needs
+
+returns : tie.Need-returns Inv-loop μ-loop
+returns c =
+    let a = c .before .before .before .args in
+    let end : c .before .loop .s ≡ a .n = omega arith in
+    subst (λ (s : ℕ). Passed (a .n) (recordOf (a .t .now)) s (c .before .loop .seen)) end (c .before .loop .inv .1)
+
+pub links-spec : {M : Type 1} → statement M
+links-spec =
+    tie.close
+    (tie.spec Inv-loop μ-loop loop-holds look-requires add-s loop-less loop-again returns)

@@ -1,0 +1,66 @@
+-- `judge::links::record_ok` meets its contract: the test before the calls says that a field is out of its range, and
+-- where it says no, the child slots decide. Assumes nothing.
+use Rattle.table.specs.Record.{recordOf}
+use Rattle.judge.specs.Counted.{allLinked}
+use Rattle.judge.specs.Pass.{plain, record-not, record-yes}
+use native.Mathlib.Omega.{arith}
+use borrow.Author.Needs.{needs}
+use Rattle.judge.proofs.links.record_ok.Statement.{statement}
+use Rattle.judge.proofs.links.record_ok.Tie as tie
+
+timestamp-of-requires : tie.Need-timestamp-of-requires
+timestamp-of-requires c κs = search needs
+
+returns : tie.Need-returns
+returns c =
+    let b = c .before .before .before in
+    record-not
+    (recordOf (b .args .t .now) (b .args .s))
+    (c .before .timestamp-of .result)
+    (b .args .kind)
+    (b .args .count)
+    (c .before .timestamp-of .ensures)
+    (b .pre .3)
+    (b .pre .4)
+    (allLinked (b .args .n) (recordOf (b .args .t .now)) (b .args .s))
+    (c .if1 .taken)
+
+past-ok-requires : tie.Need-past-ok-requires
+past-ok-requires c κs =
+    let b = c .before .before .before in
+    let p = plain (c .before .timestamp-of .result) (b .args .kind) (b .args .count) (c .if1 .left) in
+    (omega arith, b .pre .4, p .few)
+
+children-ok-requires : tie.Need-children-ok-requires
+children-ok-requires c κs =
+    let b = c .before .before .before .before in
+    let p = plain (c .before .before .timestamp-of .result) (b .args .kind) (b .args .count) (c .before .if1 .left) in
+    (b .pre .0, b .pre .1, b .pre .4, p .few, c .before .before .timestamp-of .ensures)
+
+returns-2 : tie.Need-returns-2
+returns-2 c =
+    let b = c .before .before .before .before .before in
+    record-yes
+    (recordOf (b .args .t .now) (b .args .s))
+    (c .before .before .before .timestamp-of .result)
+    (b .args .kind)
+    (b .args .count)
+    (c .before .before .before .timestamp-of .ensures)
+    (b .pre .3)
+    (b .pre .4)
+    (allLinked (b .args .n) (recordOf (b .args .t .now)) (b .args .s))
+    (c .before .past-ok .result)
+    (c .children-ok .result)
+    (b .pre .2)
+    (plain
+    (c .before .before .before .timestamp-of .result)
+    (b .args .kind)
+    (b .args .count)
+    (c .before .before .if1 .left))
+    (c .before .past-ok .ensures)
+    (c .children-ok .ensures)
+
+pub record-ok-spec : {M : Type 1} → statement M
+record-ok-spec =
+    tie.close
+    (tie.spec timestamp-of-requires returns past-ok-requires children-ok-requires returns-2)

@@ -1,0 +1,13 @@
+-- Well formed: the paper's words, clause by clause, their decision, and the counting form that the code takes.
+
+-- the paper's words
+pub mod WellFormed
+pub mod Decided
+-- the counting form
+pub mod Counted
+pub mod Standing
+pub mod Counting
+-- the code's loops
+pub mod Key
+pub mod Seen
+pub mod Pass

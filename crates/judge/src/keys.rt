@@ -1,0 +1,40 @@
+// Cards told apart, and timestamps.
+ghost use mathlib.Core.Path.{_≡_};
+ghost use Prim.Native.Nat.{_+_, _*_, _≤_};
+ghost use lib.ListN.{length};
+ghost use Rattle.table.specs.Record.{recordOf};
+ghost use Rattle.distinct.specs.Distinct.{distinctTo};
+ghost use Rattle.judge.specs.Key.{keyOf};
+
+// The most records a table has.
+const RECORDS: usize = 1024;
+
+// Which field of a record is its key.
+pub enum Key {
+    Card,
+    Timestamp,
+}
+
+fn key_of(t: &[u8], s: usize, key: Key) -> u32
+    requires { ⌜ s * 64 + 64 ≤ length (now t) ⌝ }
+    ensures { λ r. ⌜ r ≡ keyOf key (recordOf (now (t .entry)) s) ⌝ }
+{
+    match key {
+        Key::Card => table::card_of(t, s),
+        Key::Timestamp => table::timestamp_of(t, s),
+    }
+}
+
+// Have no two of the n records the same key, 0 aside? At each turn the keys of the records before s are gathered.
+pub fn keys_distinct(t: &[u8], n: usize, key: Key) -> bool
+    requires { ⌜ (n * 64 ≤ length (now t)) × (n ≤ 1024) ⌝ }
+    ensures { λ r. ⌜ r ≡ distinctTo n (λ s. keyOf key (recordOf (now (t .entry)) s)) ⌝ }
+{
+    let mut keys = [0u32; RECORDS];
+    let mut s = 0;
+    while s < n {
+        keys[s] = key_of(t, s, key);
+        s += 1;
+    }
+    distinct::all_distinct(&keys[..n])
+}

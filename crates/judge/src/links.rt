@@ -1,0 +1,125 @@
+// One pass over the records: what it asks of each, and the numbers that it brings back.
+ghost use mathlib.Core.Path.{_≡_};
+ghost use mathlib.Core.Bool.{_&&_};
+ghost use Prim.Native.Nat.{_+_, _*_, _≤_, _<_};
+ghost use lib.ListN.{length};
+ghost use Rattle.table.specs.Record.{recordOf};
+ghost use Rattle.judge.specs.WellFormed.{isFilled, pastCount};
+ghost use Rattle.judge.specs.Counted.{allLinked};
+ghost use Rattle.judge.specs.Seen.{Passed};
+
+// What stands for no slot: past the children, and for the root's parent.
+const NO_SLOT: u16 = 65535;
+
+// The largest kind there is.
+const KINDS: u8 = 2;
+
+// Most children of a record.
+const MOST: usize = 8;
+
+// Are the child slots past the count 65,535? At each turn `ok` says so of those before i.
+fn past_ok(t: &[u8], s: usize, count: usize) -> bool
+    requires { ⌜ (s * 64 + 64 ≤ length (now t)) × (count ≡ recordOf (now t) s .count) × (count ≤ 8) ⌝ }
+    ensures { λ r. ⌜ r ≡ pastCount (recordOf (now (t .entry)) s) ⌝ }
+{
+    let mut ok = true;
+    let mut i = count;
+    while i < MOST {
+        ok = ok & (table::slot_of(t, s, i) == NO_SLOT);
+        i += 1;
+    }
+    ok
+}
+
+// Is each child in the table, does it name s as its parent, and is it younger than the one before it, the first than
+// the record itself? At each turn the i children passed are, and `before` is the last one's timestamp.
+fn children_ok(t: &[u8], n: usize, s: usize, count: usize, timestamp: u32) -> bool
+    requires { ⌜ (n * 64 ≤ length (now t)) × (s < n) × (count ≡ recordOf (now t) s .count) × (count ≤ 8)
+        × (timestamp ≡ recordOf (now t) s .timestamp) ⌝ }
+    ensures { λ r. ⌜ r ≡ allLinked n (recordOf (now (t .entry))) s ⌝ }
+{
+    let mut before = timestamp;
+    let mut i = 0;
+    while i < count {
+        let c = table::slot_of(t, s, i) as usize;
+        if c >= n {
+            return false;
+        }
+        let younger = table::timestamp_of(t, c);
+        if (table::parent_of(t, c) as usize != s) | (younger <= before) {
+            return false;
+        }
+        before = younger;
+        i += 1;
+    }
+    true
+}
+
+// Has the used record in slot s every field as it should be, and each of its children linked to it?
+fn record_ok(t: &[u8], n: usize, s: usize, kind: u8, count: u8) -> bool
+    requires { ⌜ (n * 64 ≤ length (now t)) × (s < n) × (1 ≤ recordOf (now t) s .card)
+        × (kind ≡ recordOf (now t) s .kind) × (count ≡ recordOf (now t) s .count) ⌝ }
+    ensures { λ r. ⌜ r ≡ isFilled (recordOf (now (t .entry)) s) && allLinked n (recordOf (now (t .entry))) s ⌝ }
+{
+    let timestamp = table::timestamp_of(t, s);
+    if (timestamp == 0) | (kind == 0) | (kind > KINDS) | (count as usize > MOST) {
+        return false;
+    }
+    past_ok(t, s, count as usize) & children_ok(t, n, s, count as usize, timestamp)
+}
+
+// What a pass has seen of the records before a slot: whether all of them fit, the kind of the last used one, how many
+// are used, how many are roots, and how many children they count.
+pub struct Seen {
+    pub fit: bool,
+    pub kind: u8,
+    pub used: usize,
+    pub roots: usize,
+    pub children: usize,
+}
+
+// What the pass has seen, with the record in slot s besides.
+fn look(t: &[u8], n: usize, s: usize, seen: Seen) -> Seen
+    requires { ⌜ (n * 64 ≤ length (now t)) × (n ≤ 1024) × (s < n) × Passed n (recordOf (now t)) s seen ⌝ }
+    ensures { λ r. ⌜ Passed n (recordOf (now (t .entry))) (s + 1) r ⌝ }
+{
+    if table::card_of(t, s) == 0 {
+        return Seen {
+            fit: seen.fit & table::is_free(t, s),
+            kind: seen.kind,
+            used: seen.used,
+            roots: seen.roots,
+            children: seen.children,
+        };
+    }
+    let kind = table::kind_of(t, s);
+    let count = table::count_of(t, s);
+    let root = table::parent_of(t, s) == NO_SLOT;
+    Seen {
+        fit: seen.fit & ((seen.kind == 0) | (seen.kind == kind)) & record_ok(t, n, s, kind, count),
+        kind,
+        used: seen.used + 1,
+        roots: seen.roots + root as usize,
+        children: seen.children + count as usize,
+    }
+}
+
+// The whole pass. At each turn it has seen the records before s.
+pub fn links(t: &[u8], n: usize) -> Seen
+    requires { ⌜ (n * 64 ≤ length (now t)) × (n ≤ 1024) ⌝ }
+    ensures { λ r. ⌜ Passed n (recordOf (now (t .entry))) n r ⌝ }
+{
+    let mut seen = Seen {
+        fit: true,
+        kind: 0,
+        used: 0,
+        roots: 0,
+        children: 0,
+    };
+    let mut s = 0;
+    while s < n {
+        seen = look(t, n, s, seen);
+        s += 1;
+    }
+    seen
+}
