@@ -1,0 +1,1 @@
+// The tree's mathematics: definitions and theorems alone (specs/), and no code.
