@@ -1,0 +1,10 @@
+-- What joins a table's records to the tree's theorems, and the paper's refusal numbers.
+pub mod View
+pub mod Refusal
+pub mod Place
+pub mod Children
+pub mod Shaped
+pub mod Survey
+pub mod Formed
+pub mod Sound
+pub mod Stored
