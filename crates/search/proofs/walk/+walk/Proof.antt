@@ -1,0 +1,412 @@
+-- `search::walk::walk` meets its contract. The falling number is the depth left. The loop's invariant: what is left of
+-- the children's turn, entered after the list, the cards found and the count so far, is what this record and all its
+-- children enter. Assumes nothing.
+use Prim.Native.Nat.{ℕ, _+_, _-_, _^_, _≤_, _<_}
+use mathlib.Core.Path.{_≡_, refl, sym, ap, _∙_}
+use mathlib.Core.List.{_++_}
+use native.Mathlib.Omega.{arith}
+use borrow.Author.Needs.{needs}
+use borrow.Author.Tests.{not-true, not-false}
+use lib.ListN.{length, getD}
+use lib.Seq.{sets, length-sets}
+use borrow.Fn.Kinds.{In}
+use borrow.Fn.PlainCycle.{Measures, is, falls, and}
+use Rattle.distance.specs.Laws.{farthest}
+use Rattle.table.specs.Record.{recordOf, slot, children}
+use Rattle.search.specs.Walk.{Stands, Compared, isEntered, cardWithin, State, state, query, smallestTo, enteredFrom, after}
+use Rattle.search.specs.declared.walk.Reached.{Reached}
+use Rattle.search.proofs.Steps
+use Rattle.search.proofs.Steps.{cases, slots-length, smallest-same, smallest-at-most}
+use Rattle.search.proofs.walk.walk.Reads as walk
+use Rattle.search.proofs.walk.walk.Kinds as walk-kinds
+use Rattle.search.proofs.walk.+walk.Lts-walk as walk-lts
+use Rattle.search.proofs.walk.bound_of.Reads as bound-of-reads
+use Rattle.search.proofs.walk.child.Reads as child-reads
+use Rattle.search.proofs.walk.child_count.Reads as child-count-reads
+use Rattle.search.proofs.walk.distances.Reads as distances-reads
+use Rattle.search.proofs.walk.enters.Reads as enters-reads
+use Rattle.search.proofs.walk.note.Reads as note-reads
+use Rattle.search.proofs.walk.smallest.Reads as smallest-reads
+use Rattle.search.proofs.walk.+walk.{statement}
+use Rattle.search.proofs.walk.+walk.Tie.{close}
+
+-- the depth left
+abbrev μ-walk : Measures 2 walk-kinds.ps ℕ
+μ-walk κs a = a .1 .1 .1 .1 .1 .1 .1 .1 .1 .0
+
+abbrev walk-at : ℕ → In 2 walk-kinds.ps
+walk-at t = and 2 walk-kinds.ps (is 2 walk-kinds.ps μ-walk t) walk.Pre
+
+abbrev walk-below : ℕ → In 2 walk-kinds.ps
+walk-below t = and 2 walk-kinds.ps (falls 2 walk-kinds.ps _<_ μ-walk t) walk.Pre
+
+abbrev Inv-loop : walk-lts.InvT-loop
+Inv-loop t kind q radius list₀ s away bound left n ds found reached₀ k₀ list reached k =
+    let Q = query t kind (q .readings) radius in
+    (k ≤ n) × (length list ≡ length list₀)
+    × (after Q list (reached .found) (reached .count) (Steps.restFrom Q (left - 1) s bound k)
+    ≡ after Q list₀ (reached₀ .found) (reached₀ .count) (Steps.restFrom Q (left - 1) s bound 0))
+
+abbrev μ-loop : walk-lts.MeasureT-loop
+μ-loop t kind q radius list₀ s away bound left n ds found reached₀ k₀ list reached k = n - k
+
+abbrev Known : ℕ → walk-lts.Claims
+Known t = (
+  enters-reads.Asked,
+  enters-reads.Learnt,
+  child-count-reads.Asked,
+  child-count-reads.Learnt,
+  distances-reads.Asked,
+  distances-reads.Learnt,
+  note-reads.Asked,
+  note-reads.Learnt,
+  smallest-reads.Asked,
+  smallest-reads.Learnt,
+  bound-of-reads.Asked,
+  bound-of-reads.Learnt,
+  child-reads.Asked,
+  child-reads.Learnt,
+  walk-below t,
+  walk.Post,
+)
+
+module _ (τ : ℕ) where
+  -- back from the children's count to the function's start, and from the loop to the children's count
+  abbrev opened : walk-lts.After-child-count (Known τ) (walk-at τ) walk.Post Inv-loop μ-loop
+      → walk-lts.Start (Known τ) (walk-at τ) walk.Post Inv-loop μ-loop
+  opened c = c .before .before .before .before .before .before
+
+  abbrev looped : walk-lts.At-loop (Known τ) (walk-at τ) walk.Post Inv-loop μ-loop
+      → walk-lts.After-child-count (Known τ) (walk-at τ) walk.Post Inv-loop μ-loop
+  looped c = c .before .before .before .before .before .before .before
+
+  returns : walk-lts.Need-returns (Known τ) (walk-at τ) walk.Post Inv-loop μ-loop
+  returns c =
+      let a = c .before .before .before .args in
+      let R = recordOf (a .t .now) in
+      let Q = query (a .t .now) (a .kind) (a .q .readings) (a .radius) in
+      Steps.stays Q (a .list .now) (a .start .found) (a .start .count) _
+      (Steps.visit-end Q (a .left) (a .s) (a .bound) (c .if1 .taken))
+
+  enters-requires : walk-lts.Need-enters-requires (Known τ) (walk-at τ) walk.Post Inv-loop μ-loop
+  enters-requires c κs = search needs
+
+  -- the test of step 1 is the definition's
+  enters-is : (c : walk-lts.After-enters (Known τ) (walk-at τ) walk.Post Inv-loop μ-loop) →
+      let a = c .before .before .before .before .args in
+      let R = recordOf (a .t .now) in
+      let Q = query (a .t .now) (a .kind) (a .q .readings) (a .radius) in
+      Steps.entersAt Q (a .s) (a .bound) ≡ c .enters .result
+  enters-is c =
+      let a = c .before .before .before .before .args in
+      let R = recordOf (a .t .now) in
+      let Q = query (a .t .now) (a .kind) (a .q .readings) (a .radius) in
+      let away = c .before .before .before .before .pre .1 .0 .3 in
+      sym
+      (c .enters .ensures
+      ∙ ap (λ (z : ℕ). isEntered (R (a .s)) z (a .radius) (a .bound)) away)
+
+  returns-2 : walk-lts.Need-returns-2 (Known τ) (walk-at τ) walk.Post Inv-loop μ-loop
+  returns-2 c =
+      let a = c .before .before .before .before .before .args in
+      let R = recordOf (a .t .now) in
+      let Q = query (a .t .now) (a .kind) (a .q .readings) (a .radius) in
+      Steps.stays Q (a .list .now) (a .start .found) (a .start .count) _
+      (Steps.visit-out Q (a .left) (a .s) (a .bound) (c .before .before .if1 .left)
+      (enters-is (c .before) ∙ not-true _ (c .if2 .taken)))
+
+  child-count-requires : walk-lts.Need-child-count-requires (Known τ) (walk-at τ) walk.Post Inv-loop μ-loop
+  child-count-requires c κs = search needs
+
+  distances-requires : walk-lts.Need-distances-requires (Known τ) (walk-at τ) walk.Post Inv-loop μ-loop
+  distances-requires c κs = search needs
+
+  -- the record is entered, and its children are at most eight
+  few : (c : walk-lts.After-child-count (Known τ) (walk-at τ) walk.Post Inv-loop μ-loop) →
+      let a = opened c .args in
+      let R = recordOf (a .t .now) in
+      let Q = query (a .t .now) (a .kind) (a .q .readings) (a .radius) in R (a .s) .count ≤ length (R (a .s) .slots)
+  few c =
+      let a = opened c .args in omega (arith, slots-length (a .t .now) (a .s))
+
+  entered : (c : walk-lts.After-child-count (Known τ) (walk-at τ) walk.Post Inv-loop μ-loop) →
+      let a = c .before .before .before .before .before .before .args in
+      let R = recordOf (a .t .now) in
+      let Q = query (a .t .now) (a .kind) (a .q .readings) (a .radius) in
+      let own = cardWithin (R (a .s)) (a .away) (a .radius) in
+      after Q (sets (a .list .now) (a .start .found) own) (a .start .found + length own)
+      (a .start .count + c .child-count .result)
+      (Steps.restFrom Q (a .left - 1) (a .s) (a .bound) 0)
+      ≡ after Q (a .list .now) (a .start .found) (a .start .count) (enteredFrom Q (a .left) (a .s) (a .bound))
+  entered c =
+      let a = c .before .before .before .before .before .before .args in
+      let R = recordOf (a .t .now) in
+      let Q = query (a .t .now) (a .kind) (a .q .readings) (a .radius) in
+      rw (c .before .before .before .before .before .before .pre .1 .0 .3, c .child-count .ensures .0)
+      (sym
+      (Steps.entered-after Q (a .s) (few c) (a .list .now) (a .start .found) (a .start .count) (a .left) (a .bound)
+      (c .before .before .before .if1 .left) (enters-is (c .before .before) ∙ not-false _ (c .before .if2 .left))))
+
+  fits : (c : walk-lts.After-child-count (Known τ) (walk-at τ) walk.Post Inv-loop μ-loop) →
+      let a = opened c .args in
+      let R = recordOf (a .t .now) in
+      let Q = query (a .t .now) (a .kind) (a .q .readings) (a .radius) in
+      (a .start .found + length (cardWithin (R (a .s)) (a .away) (a .radius)) ≤ length (a .list .now))
+      × (a .start .count + c .child-count .result < 2 ^ 32)
+  fits c =
+      let a = opened c .args in
+      let R = recordOf (a .t .now) in
+      let Q = query (a .t .now) (a .kind) (a .q .readings) (a .radius) in
+      let own = cardWithin (R (a .s)) (a .away) (a .radius) in
+      let rest = Steps.restFrom Q (a .left - 1) (a .s) (a .bound) 0 in
+      let more =
+      rw (entered c) at
+      (Steps.after-more Q (sets (a .list .now) (a .start .found) own) (a .start .found + length own)
+      (a .start .count + c .child-count .result) rest) in
+      let p = opened c .pre .1 .1 in
+      (omega arith, omega arith)
+
+  note-requires : walk-lts.Need-note-requires (Known τ) (walk-at τ) walk.Post Inv-loop μ-loop
+  note-requires c κs =
+      (opened (c .before .before) .pre .1 .0 .1, fits (c .before .before) .0)
+
+  add-t23 : walk-lts.Need-add-t23 (Known τ) (walk-at τ) walk.Post Inv-loop μ-loop
+  add-t23 c =
+      let h = fits (c .before .before .before .before .before .before) .1 in search needs
+
+  -- where the loop begins, this record is listed and counted, and all its children are left
+  begun : (c : walk-lts.After-slice-known2 (Known τ) (walk-at τ) walk.Post Inv-loop μ-loop) →
+      let a = opened (c .before .before .before .before .before) .args in
+      let R = recordOf (a .t .now) in
+      let Q = query (a .t .now) (a .kind) (a .q .readings) (a .radius) in
+      after Q (c .before .before .note .last .1 .1 .1 .1 .0) (c .before .before .note .result)
+      (a .start .count + c .before .before .before .before .before .child-count .result)
+      (Steps.restFrom Q (a .left - 1) (a .s) (a .bound) 0)
+      ≡ after Q (a .list .now) (a .start .found) (a .start .count) (enteredFrom Q (a .left) (a .s) (a .bound))
+  begun c =
+      let a = opened (c .before .before .before .before .before) .args in
+      let R = recordOf (a .t .now) in
+      let Q = query (a .t .now) (a .kind) (a .q .readings) (a .radius) in
+      let n = c .before .before .note .ensures in
+      rw (n .0, n .1) (entered (c .before .before .before .before .before))
+
+  as-long : (c : walk-lts.After-slice-known2 (Known τ) (walk-at τ) walk.Post Inv-loop μ-loop) →
+      length (c .before .before .note .last .1 .1 .1 .1 .0)
+      ≡ length (opened (c .before .before .before .before .before) .args .list .now)
+  as-long c =
+      let a = opened (c .before .before .before .before .before) .args in
+      ap length (c .before .before .note .ensures .0)
+      ∙ length-sets (a .list .now) (a .start .found)
+      (cardWithin (recordOf (a .t .now) (a .s)) (a .away) (a .radius))
+
+  loop-holds : walk-lts.Need-loop-holds (Known τ) (walk-at τ) walk.Post Inv-loop μ-loop
+  loop-holds c =
+      (search needs, refl, refl)
+
+  mul-e : walk-lts.Need-mul-e (Known τ) (walk-at τ) walk.Post Inv-loop μ-loop
+  mul-e c = search needs
+
+  array-read-e : walk-lts.Need-array-read-e (Known τ) (walk-at τ) walk.Post Inv-loop μ-loop
+  array-read-e c = search needs
+
+  smallest-requires : walk-lts.Need-smallest-requires (Known τ) (walk-at τ) walk.Post Inv-loop μ-loop
+  smallest-requires c κs = search needs
+
+  mul-if3 : walk-lts.Need-mul-if3 (Known τ) (walk-at τ) walk.Post Inv-loop μ-loop
+  mul-if3 c = search needs
+
+  add-if3 : walk-lts.Need-add-if3 (Known τ) (walk-at τ) walk.Post Inv-loop μ-loop
+  add-if3 c =
+      let small : c .smallest .result ≤ farthest = rw (c .smallest .ensures) (smallest-at-most _ _ _) in
+      search needs
+
+  bound-of-requires : walk-lts.Need-bound-of-requires (Known τ) (walk-at τ) walk.Post Inv-loop μ-loop
+  bound-of-requires c κs = search needs
+
+  child-requires : walk-lts.Need-child-requires (Known τ) (walk-at τ) walk.Post Inv-loop μ-loop
+  child-requires c κs =
+      (opened (looped (c .before .before .before .before .before)) .pre .1 .0 .1, omega arith)
+
+  sub-walk : walk-lts.Need-sub-walk (Known τ) (walk-at τ) walk.Post Inv-loop μ-loop
+  sub-walk c = search needs
+
+  -- the loop's state and what is left lead to what the contract says
+  on : (c : walk-lts.At-loop (Known τ) (walk-at τ) walk.Post Inv-loop μ-loop) →
+      let a = opened (looped c) .args in
+      let R = recordOf (a .t .now) in
+      let Q = query (a .t .now) (a .kind) (a .q .readings) (a .radius) in
+      after Q (c .loop .list) (c .loop .reached .found) (c .loop .reached .count)
+      (Steps.restFrom Q (a .left - 1) (a .s) (a .bound) (c .loop .k))
+      ≡ after Q (a .list .now) (a .start .found) (a .start .count) (enteredFrom Q (a .left) (a .s) (a .bound))
+  on c = c .loop .inv .2 ∙ begun (c .before .before)
+
+  -- the two numbers of the loop's test are the definition's
+  tested : (c : walk-lts.After-smallest (Known τ) (walk-at τ) walk.Post Inv-loop μ-loop) →
+      let a = opened (looped (c .before .before)) .args in
+      let R = recordOf (a .t .now) in
+      let Q = query (a .t .now) (a .kind) (a .q .readings) (a .radius) in
+      let k = c .before .before .loop .k in
+      (getD (c .before .before .before .before .before .before .before .before .distances .result) k 0
+      ≡ Steps.awayIn Q (slot (R (a .s)) k))
+      × (c .smallest .result ≡ smallestTo k (λ j. Steps.awayIn Q (slot (R (a .s)) j)) farthest)
+  tested c =
+      let a = opened (looped (c .before .before)) .args in
+      let R = recordOf (a .t .now) in
+      let Q = query (a .t .now) (a .kind) (a .q .readings) (a .radius) in
+      let k = c .before .before .loop .k in
+      let each = c .before .before .before .before .before .before .before .before .distances .ensures .each in (
+        each k (c .before .loop-test .taken),
+        c .smallest .ensures ∙ smallest-same k _ _ farthest (λ j h. each j (omega arith)),
+      )
+
+  each : (c : walk-lts.After-child (Known τ) (walk-at τ) walk.Post Inv-loop μ-loop) →
+      let a = opened (looped (c .before .before .before .before .before .before)) .args in
+      Compared (recordOf (a .t .now)) (a .kind) (a .q .readings) (a .s)
+      (looped (c .before .before .before .before .before .before) .child-count .result)
+      (c .before .before .before .before .before .before .before .before .before .before .before .before .distances .result)
+  each c = c .before .before .before .before .before .before .before .before .before .before .before .before .distances .ensures
+
+  -- the child is visited: its walk comes first of what is left
+  visited : (c : walk-lts.After-child (Known τ) (walk-at τ) walk.Post Inv-loop μ-loop) →
+      let a = opened (looped (c .before .before .before .before .before .before)) .args in
+      let R = recordOf (a .t .now) in
+      let Q = query (a .t .now) (a .kind) (a .q .readings) (a .radius) in
+      let k = c .before .before .before .before .before .before .loop .k in
+      Steps.restFrom Q (a .left - 1) (a .s) (a .bound) k
+      ≡ enteredFrom Q (a .left - 1) (c .child .result) (c .before .before .bound-of .result)
+      ++ Steps.restFrom Q (a .left - 1) (a .s) (a .bound) (k + 1)
+  visited c =
+      let a = opened (looped (c .before .before .before .before .before .before)) .args in
+      let R = recordOf (a .t .now) in
+      let Q = query (a .t .now) (a .kind) (a .q .readings) (a .radius) in
+      let k = c .before .before .before .before .before .before .loop .k in
+      let e = tested (c .before .before .before .before) in
+      let p = opened (looped (c .before .before .before .before .before .before)) .pre .1 .0 in
+      let i = looped (c .before .before .before .before .before .before) .child-count .ensures .0 in
+      let one = few (looped (c .before .before .before .before .before .before)) in
+      Steps.rest-in Q (a .s) one (a .left - 1) (a .bound) k (c .child .result) (c .before .before .bound-of .result)
+      (omega arith)
+      (let x = e .0 in let y = e .1 in omega arith)
+      (c .child .ensures)
+      (c .before .before .bound-of .ensures (a .kind) (a .q .readings) (each c))
+
+  walk-requires : walk-lts.Need-walk-requires (Known τ) (walk-at τ) walk.Post Inv-loop μ-loop
+  walk-requires c κs =
+      let a = opened (looped (c .before .before .before .before .before .before)) .args in
+      let R = recordOf (a .t .now) in
+      let Q = query (a .t .now) (a .kind) (a .q .readings) (a .radius) in
+      let l = c .before .before .before .before .before .before .loop in
+      let p = opened (looped (c .before .before .before .before .before .before)) .pre in
+      let i = looped (c .before .before .before .before .before .before) .child-count .ensures .0 in
+      let k : l .k < R (a .s) .count = omega arith in
+      let room =
+      rw (← visited c, on (c .before .before .before .before .before .before)) at
+      (Steps.room-first Q (l .list) (l .reached .found) (l .reached .count)
+      (enteredFrom Q (a .left - 1) (c .child .result) (c .before .before .bound-of .result))
+      (Steps.restFrom Q (a .left - 1) (a .s) (a .bound) (l .k + 1))) in
+      let len : length (l .list) ≡ length (a .list .now) =
+      l .inv .1 ∙ as-long (c .before .before .before .before .before .before .before .before) in
+      let stands : Stands (a .t .now) (c .child .result) =
+      rw (c .child .ensures) (p .1 .0 .0 .stand (a .s) (l .k) (p .1 .0 .1) k) in
+      let away = tested (c .before .before .before .before) .0 ∙ ap (Steps.awayIn Q) (sym (c .child .ensures)) in (
+        omega arith,
+        (
+          (p .1 .0 .0, stands, p .1 .0 .2, away),
+          (omega arith, omega arith),
+        ),
+      )
+
+  add-k : walk-lts.Need-add-k (Known τ) (walk-at τ) walk.Post Inv-loop μ-loop
+  add-k c = search needs
+
+  loop-less : walk-lts.Need-loop-less (Known τ) (walk-at τ) walk.Post Inv-loop μ-loop
+  loop-less c = search needs
+
+  -- a turn of the loop: either way, what was left at k is what the turn enters, and what is left at k + 1
+  turned : (c : walk-lts.Joined3 (Known τ) (walk-at τ) walk.Post Inv-loop μ-loop) →
+      let a = opened (looped (c .before .before .before)) .args in
+      let R = recordOf (a .t .now) in
+      let Q = query (a .t .now) (a .kind) (a .q .readings) (a .radius) in
+      let l = c .before .before .before .loop in
+      (length (c .if3 .list) ≡ length (l .list))
+      × (after Q (c .if3 .list) (c .if3 .reached .found) (c .if3 .reached .count)
+      (Steps.restFrom Q (a .left - 1) (a .s) (a .bound) (l .k + 1))
+      ≡ after Q (l .list) (l .reached .found) (l .reached .count) (Steps.restFrom Q (a .left - 1) (a .s) (a .bound) (l .k)))
+  turned c =
+      let a = opened (looped (c .before .before .before)) .args in
+      let R = recordOf (a .t .now) in
+      let Q = query (a .t .now) (a .kind) (a .q .readings) (a .radius) in
+      let l = c .before .before .before .loop in
+      let rest = Steps.restFrom Q (a .left - 1) (a .s) (a .bound) (l .k + 1) in
+      let e = tested (c .before) in
+      let i = looped (c .before .before .before) .child-count .ensures .0 in
+      cases (c .if3 .came)
+      (λ w.
+      let at-child : walk-lts.After-child (Known τ) (walk-at τ) walk.Post Inv-loop μ-loop =
+      record {
+        before =
+            record { before = record { before = record { before = c .before; if3 = w .0 }; bound-of = w .1 }; walk-arg = w .2 };
+        child = w .3;
+      } in
+      let came : state (c .if3 .list) (c .if3 .reached .found) (c .if3 .reached .count)
+      ≡ after Q (l .list) (l .reached .found) (l .reached .count) (enteredFrom Q (a .left - 1) (w .3 .result) (w .1 .result)) =
+      Steps.parts (w .7) (ap (λ (z : Reached). z .found) (w .8)) (ap (λ (z : Reached). z .count) (w .8)) ∙ w .4 .ensures in (
+        ap (λ (z : State). length (z .list)) came ∙ Steps.after-length Q (l .list) (l .reached .found) (l .reached .count) _,
+        Steps.onward Q _ (c .if3 .list) (c .if3 .reached .found) (c .if3 .reached .count) rest came
+            ∙ sym (Steps.after-append Q (l .list) (l .reached .found) (l .reached .count) _ rest)
+            ∙ ap (after Q (l .list) (l .reached .found) (l .reached .count)) (sym (visited at-child)),
+      ))
+      (λ w. (
+        ap length (w .1),
+        ap (λ (z : State). after Q (z .list) (z .found) (z .count) rest)
+            (Steps.parts (w .1) (ap (λ (z : Reached). z .found) (w .2)) (ap (λ (z : Reached). z .count) (w .2)))
+            ∙ ap (after Q (l .list) (l .reached .found) (l .reached .count))
+            (sym
+            (Steps.rest-out Q (a .s) (few (looped (c .before .before .before))) (a .left - 1) (a .bound) (l .k) (omega arith)
+            (let x = e .0 in let y = e .1 in omega arith))),
+      ))
+
+  loop-again : walk-lts.Need-loop-again (Known τ) (walk-at τ) walk.Post Inv-loop μ-loop
+  loop-again c =
+      let t = turned c in
+      (search needs, t .0 ∙ c .before .before .before .loop .inv .1, t .1 ∙ c .before .before .before .loop .inv .2)
+
+  same-length : walk-lts.Need-same-length (Known τ) (walk-at τ) walk.Post Inv-loop μ-loop
+  same-length c =
+      c .before .loop .inv .1 ∙ as-long (c .before .before .before)
+
+  returns-3 : walk-lts.Need-returns-3 (Known τ) (walk-at τ) walk.Post Inv-loop μ-loop
+  returns-3 c =
+      let a = opened (looped (c .before)) .args in
+      let R = recordOf (a .t .now) in
+      let Q = query (a .t .now) (a .kind) (a .q .readings) (a .radius) in
+      let l = c .before .loop in
+      let i = looped (c .before) .child-count .ensures .0 in
+      Steps.stays Q (l .list) (l .reached .found) (l .reached .count) _
+      (Steps.rest-end Q (a .s) (few (looped (c .before))) (a .left - 1) (a .bound) (l .k) (omega arith))
+      ∙ on (c .before)
+
+pub +walk-spec : {M : Type 1} → statement M
++walk-spec = close μ-walk λ τ. walk-lts.spec (Known τ) (walk-at τ) walk.Post Inv-loop μ-loop
+    (returns τ)
+    (enters-requires τ)
+    (returns-2 τ)
+    (child-count-requires τ)
+    (distances-requires τ)
+    (note-requires τ)
+    (add-t23 τ)
+    (loop-holds τ)
+    (mul-e τ)
+    (array-read-e τ)
+    (smallest-requires τ)
+    (mul-if3 τ)
+    (add-if3 τ)
+    (bound-of-requires τ)
+    (child-requires τ)
+    (sub-walk τ)
+    (walk-requires τ)
+    (add-k τ)
+    (loop-less τ)
+    (loop-again τ)
+    (same-length τ)
+    (returns-3 τ)

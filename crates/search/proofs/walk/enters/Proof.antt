@@ -1,0 +1,37 @@
+-- `search::walk::enters` meets its contract: each of the two tests is the one that step 1 names. Assumes nothing.
+use mathlib.Core.Path.{_∙_}
+use borrow.Author.Needs.{needs}
+use Rattle.search.proofs.walk.enters.Statement.{statement}
+use Rattle.search.proofs.walk.enters.Tie as tie
+
+timestamp-of-requires : tie.Need-timestamp-of-requires
+timestamp-of-requires c κs = search needs
+
+wide-requires : tie.Need-wide-requires
+wide-requires c κs = search needs
+
+radius-of-requires : tie.Need-radius-of-requires
+radius-of-requires c κs = search needs
+
+wide-requires-2 : tie.Need-wide-requires-2
+wide-requires-2 c κs = search needs
+
+add-covered : tie.Need-add-covered
+add-covered c = search needs
+
+returns : tie.Need-returns
+returns c =
+    let e = c .before .before .wide .ensures .0 ∙ c .before .before .before .timestamp-of .ensures in
+    let f = c .wide2 .ensures .0 ∙ c .before .radius-of .ensures in
+    rw (e, f)
+
+pub enters-spec : {M : Type 1} → statement M
+enters-spec =
+    tie.close
+    (tie.spec
+    timestamp-of-requires
+    wide-requires
+    radius-of-requires
+    wide-requires-2
+    add-covered
+    returns)

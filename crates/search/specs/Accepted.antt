@@ -1,0 +1,253 @@
+-- What a search may rely on once the tests of size and table are passed: the table can be walked, its view is one that
+-- the tree's theorems speak of, and what is listed and counted is no more than the used records. Assumes nothing.
+use Prim.Native.Nat.{ℕ, _*_, _%_, _^_, _≤_, _<_}
+use mathlib.Core.Path.{_≡_, refl, sym, ap, _∙_}
+use mathlib.Core.Bool.{Bool, true, false, _&&_, not}
+use mathlib.Core.List.{List, [], _∷_}
+use native.Mathlib.Omega.{arith}
+use native.Mathlib.Decide.{ℕ-discrete}
+use lib.Dec.{leb, ltb, eqb}
+use native.Mathlib.Nat.{zero-add}
+use lib.ListN.{length, length-append}
+use lib.Seq.{sets}
+use borrow.Author.Tests.{eq-eqb, ne-eqb, leb-true, eqb-true, ltb-false, not-false, lt-ltb}
+use Rattle.places.specs.Sum.{sum-at-most}
+use Rattle.places.specs.Count.{one-at-most, count-sum}
+use Rattle.places.specs.Choice.{pick, and-left, and-right}
+use Rattle.number.specs.Frame.{Bytes, number-lt}
+use Rattle.distance.specs.Laws.{farthest}
+use Rattle.distance.specs.Signature.{Fit, readings-fit}
+use Rattle.distance.specs.Kind.{apart, apart-distance}
+use Rattle.table.specs.Record.{Record, used, recordOf, mostRecords, timestampAt, signatureAt}
+use Rattle.table.specs.Table.{rightSize, recordsIn}
+use Rattle.judge.specs.WellFormed.{WellFormed, wellFormed}
+use Rattle.judge.specs.Decided.{formed-decided}
+use Rattle.survey.specs.Survey.{usedIn, rootOf, kindOf}
+use Rattle.tree.specs.Slots.{either, keep}
+use Rattle.tree.specs.View.{View, Formed, Late, usedCount, distanceCount}
+use Rattle.tree.specs.View.Count.{used-at-most}
+use Rattle.tree.specs.Search.{visit, listed}
+use Rattle.tree.specs.Search.Once.{visit-distinct, visit-used, visit-count}
+use Rattle.tree.specs.Search.Turn.{visitFrom-farthest}
+use Rattle.view.specs.View.{viewOf}
+use Rattle.view.specs.Refusal.{done, knownKind, otherKind, SIZE, TABLE, ARGUMENT, KIND, SHORT}
+use Rattle.view.specs.Shaped.{Shaped, shaped-bytes}
+use Rattle.view.specs.Formed.{formed-view, free-or-used}
+use Rattle.view.specs.Survey.{usedIn-usedCount, rootOf-is}
+use Rattle.search.specs.Search.{outcome, noBound, entered, cards, distances, refusalOf, listing}
+use Rattle.search.specs.Walk.{Stands, Walkable, walked, state, query, enteredFrom, after}
+
+-- the bytes of a table of the right size that is well formed
+pub record Readable (l : List ℕ) : Type 0 where
+  pub size : rightSize (length l) ≡ true
+  pub formed : wellFormed (recordsIn l) (recordOf l) ≡ true
+
+-- ---- the tests passed
+
+-- no test of a chain holds if the chain gives 0
+pub none-first : (b : Bool) (k x : ℕ) → 1 ≤ k → pick b k x ≡ done → (b ≡ false) × (x ≡ done)
+none-first true k x h e = absurd (omega arith)
+none-first false k x h e = (refl, e)
+
+-- what an accepted call's tests have shown, of the table l, the kind, the signature's bytes s and a list of m entries
+pub record Accepted (l : List ℕ) (kind : ℕ) (s : List ℕ) (m : ℕ) : Type 0 where
+  pub readable : Readable l
+  pub bytes : length s ≡ 32
+  pub of-kind : 1 ≤ usedIn (recordsIn l) (recordOf l) → kindOf (recordsIn l) (recordOf l) ≡ kind
+  pub room : usedIn (recordsIn l) (recordOf l) ≤ m
+
+pub accepted : (l : List ℕ) (kind : ℕ) (s : List ℕ) (m : ℕ) → refusalOf l kind s m ≡ done → Accepted l kind s m
+unfolding refusalOf otherKind
+accepted l kind s m e =
+    let n = recordsIn l in
+    let R = recordOf l in
+    let size = none-first (not (rightSize (length l))) SIZE _ (omega arith) e in
+    let table = none-first (not (wellFormed n R)) TABLE _ (omega arith) (size .1) in
+    let argument = none-first (not (knownKind kind && eqb (length s) 32)) ARGUMENT _ (omega arith) (table .1) in
+    let same = none-first (ltb 0 (usedIn n R) && not (eqb (kindOf n R) kind)) KIND _ (omega arith) (argument .1) in
+    let room = none-first (ltb m (usedIn n R)) SHORT _ (omega arith) (same .1) in
+    record {
+      readable = record { size = not-false _ (size .0); formed = not-false _ (table .0) };
+      bytes = eqb-true (length s) 32 (and-right (knownKind kind) _ (not-false _ (argument .0)));
+      of-kind = λ some. eqb-true (kindOf n R) kind (not-false _ (rw (lt-ltb 0 (usedIn n R) some) at (same .0)));
+      room = ltb-false m (usedIn n R) (room .0);
+    }
+
+-- ---- the table
+
+-- a table of the right size holds whole records
+pub whole : (l : List ℕ) → rightSize (length l) ≡ true → (length l ≡ recordsIn l * 64) × (recordsIn l ≤ mostRecords)
+unfolding rightSize
+whole l h =
+    let range = and-left (leb 64 (length l) && leb (length l) 65536) _ h in
+    let most = leb-true (length l) 65536 (and-right (leb 64 (length l)) _ range) in
+    let even = eqb-true (length l % 64) 0 (and-right (leb 64 (length l) && leb (length l) 65536) _ h) in
+    (omega arith, omega arith)
+
+module _ {l : List ℕ} (ok : Readable l) where
+  pub well : WellFormed (recordsIn l) (recordOf l)
+  well = formed-decided (recordsIn l) (recordOf l) .shows (ok .formed)
+
+  pub shape : Shaped (recordsIn l) (recordOf l)
+  shape = shaped-bytes (recordsIn l) l (whole l (ok .size) .0)
+
+  pub seen :
+      1 ≤ usedIn (recordsIn l) (recordOf l)
+      → Formed (viewOf (recordOf l)) (recordsIn l) (rootOf (recordsIn l) (recordOf l))
+  seen = formed-view (whole l (ok .size) .1) shape well
+
+  pub walkable : Walkable l
+  walkable =
+      record {
+        few =
+            λ s h.
+            either
+            (free-or-used shape (well .free-if-no-card) s)
+            (λ e. omega (arith, ap (λ (r : Record). r .count) e))
+            (λ z. well .filled s (z .0) (z .1) .count-to-8);
+        stand =
+            λ s i h b.
+            either
+            (free-or-used shape (well .free-if-no-card) s)
+            (λ e. absurd (omega (arith, ap (λ (r : Record). r .count) e)))
+            (λ z. omega (arith, whole l (ok .size) .0, well .owned s i (z .0) (z .1) b .child-in));
+      }
+
+-- the root of a used table stands in it
+pub root-stands :
+    {l : List ℕ} (ok : Readable l) → 1 ≤ usedIn (recordsIn l) (recordOf l) → Stands l (rootOf (recordsIn l) (recordOf l))
+root-stands {l} ok some = omega (arith, whole l (ok .size) .0, rootOf-is (recordsIn l) (recordOf l) (well ok) some .0)
+
+used-few : (n : ℕ) (R : ℕ → Record) → usedIn n R ≤ n
+unfolding usedIn
+used-few n R = rw (count-sum n (λ s. used (R s))) (omega (arith, sum-at-most n 1 (λ k. _) (λ k. one-at-most (used (R k)))))
+
+-- four bytes hold no timestamp that the walk's first bound cuts off
+pub unbounded : (l : List ℕ) → Bytes l → Late (viewOf (recordOf l)) noBound
+unfolding recordOf
+unbounded l h a u = number-lt 4 l (timestampAt a) h
+
+-- ---- the walk
+
+listed-length :
+    (kind : ℕ) (v : View (List ℕ)) (q : List ℕ) (r : ℕ) (es : List ℕ) → length (listed (apart kind) v q r es) ≤ length es
+unfolding listed keep
+listed-length kind v q r [] = omega arith
+listed-length kind v q r (a ∷ es) =
+    rw length-append (omega (arith, listed-length kind v q r es, one (leb (apart kind (v .signature a) q) r)))
+  where
+    one : (b : Bool) → length (keep b (v .card a ∷ [])) ≤ 1
+    one true = omega arith
+    one false = omega arith
+
+module _ (n : ℕ) (R : ℕ → Record) (kind : ℕ) (q : List ℕ) (r : ℕ) where
+  pub entered-none : usedIn n R ≡ 0 → entered n R kind q r ≡ []
+  unfolding entered
+  entered-none e = rw (eq-eqb _ _ e)
+
+  pub entered-some :
+      1 ≤ usedIn n R
+      → entered n R kind q r ≡ visit (apart kind) (viewOf R) q r (usedIn n R) (rootOf n R) noBound
+  unfolding entered
+  entered-some h = rw (ne-eqb (usedIn n R) 0 (λ e. omega arith))
+
+  pub distances-none : usedIn n R ≡ 0 → distances n R kind q r ≡ 0
+  unfolding distances
+  distances-none e = rw (eq-eqb _ _ e)
+
+  pub distances-some : 1 ≤ usedIn n R → distances n R kind q r ≡ distanceCount (viewOf R) (entered n R kind q r)
+  unfolding distances
+  distances-some h = rw (ne-eqb (usedIn n R) 0 (λ e. omega arith))
+
+  pub cards-none : usedIn n R ≡ 0 → cards n R kind q r ≡ []
+  unfolding cards listed
+  cards-none e = rw (entered-none e)
+
+  -- no more is listed than is used, and no more is counted
+  module _ (seen : 1 ≤ usedIn n R → Formed (viewOf R) n (rootOf n R)) where
+    pub cards-fit : length (cards n R kind q r) ≤ usedIn n R
+    unfolding cards
+    cards-fit = elim (ℕ-discrete (usedIn n R) 0) [
+      | yes e ↦ let z = cards-none e in omega (arith, ap length z)
+      | no ne ↦
+          let some : 1 ≤ usedIn n R = omega arith in
+          let wf = seen some in
+          rw
+          (entered-some some)
+          (omega (
+            arith,
+            listed-length kind (viewOf R) q r (visit (apart kind) (viewOf R) q r (usedIn n R) (rootOf n R) noBound),
+            used-at-most
+                wf
+                (visit (apart kind) (viewOf R) q r (usedIn n R) (rootOf n R) noBound)
+                (visit-distinct (apart kind) q r wf (usedIn n R) (rootOf n R) noBound)
+                (λ a. visit-used (apart kind) q r wf (usedIn n R) (rootOf n R) noBound a (wf .root-used)),
+            usedIn-usedCount n R,
+          ))
+    ]
+
+    pub distances-fit : distances n R kind q r ≤ usedIn n R
+    distances-fit = elim (ℕ-discrete (usedIn n R) 0) [
+      | yes e ↦ omega (arith, distances-none e)
+      | no ne ↦
+          let some : 1 ≤ usedIn n R = omega arith in
+          rw
+          (distances-some some, entered-some some, ← usedIn-usedCount n R)
+          (visit-count (apart kind) q r (seen some) (usedCount (viewOf R) n) noBound)
+    ]
+
+  -- what the walk leaves of a list from its start, with the root compared
+  pub after-walk :
+      1 ≤ usedIn n R
+      → (list : List ℕ)
+      → after (record { records = R; kind = kind; readings = q; radius = r }) list 0 1 (entered n R kind q r)
+      ≡ state (sets list 0 (cards n R kind q r)) (length (cards n R kind q r)) (distances n R kind q r)
+  unfolding after cards distanceCount
+  after-walk some list = rw (zero-add, distances-some some)
+
+-- the code's form of the walk from the root is the definition's
+pub walk-entered :
+    (l q : List ℕ) (n kind r : ℕ)
+    → Bytes l
+    → Fit q
+    → 1 ≤ usedIn n (recordOf l)
+    → enteredFrom (query l kind q r) (usedIn n (recordOf l)) (rootOf n (recordOf l)) noBound ≡ entered n (recordOf l) kind q r
+unfolding recordOf
+walk-entered l q n kind r h f some =
+    let fits : (a : ℕ) → Fit (recordOf l a .readings) = λ a. readings-fit l (signatureAt a) h in
+    visitFrom-farthest (apart kind) (viewOf (recordOf l)) q r (apart-distance kind) f fits farthest (omega arith) _ _ _
+    ∙ sym (entered-some n (recordOf l) kind q r some)
+
+-- ---- the call
+
+-- in a free table nothing is found
+pub listing-none :
+    (n : ℕ) (R : ℕ → Record) (kind : ℕ) (q : List ℕ) (r : ℕ) (list : List ℕ)
+    → usedIn n R ≡ 0
+    → outcome done 0 0 list ≡ listing (distances n R kind q r) (cards n R kind q r) list
+unfolding listing
+listing-none n R kind q r list e = rw (distances-none n R kind q r e, cards-none n R kind q r e)
+
+module _ {l : List ℕ} (ok : Readable l) (bytes : Bytes l) (kind : ℕ) (q : List ℕ) (fit : Fit q) (r : ℕ)
+    (some : 1 ≤ usedIn (recordsIn l) (recordOf l)) where
+  -- what the walk from the root leaves of a list
+  pub walk-leaves :
+      (list : List ℕ)
+      → walked (query l kind q r) list 0 1 (usedIn (recordsIn l) (recordOf l)) (rootOf (recordsIn l) (recordOf l)) noBound
+      ≡ state
+      (sets list 0 (cards (recordsIn l) (recordOf l) kind q r))
+      (length (cards (recordsIn l) (recordOf l) kind q r))
+      (distances (recordsIn l) (recordOf l) kind q r)
+  walk-leaves list =
+      ap (after (query l kind q r) list 0 1) (walk-entered l q (recordsIn l) kind r bytes fit some)
+      ∙ after-walk (recordsIn l) (recordOf l) kind q r some list
+
+  pub walk-fits :
+      (length (cards (recordsIn l) (recordOf l) kind q r) ≤ usedIn (recordsIn l) (recordOf l))
+      × (distances (recordsIn l) (recordOf l) kind q r ≤ usedIn (recordsIn l) (recordOf l))
+      × (usedIn (recordsIn l) (recordOf l) < 2 ^ 32)
+  walk-fits = (
+    cards-fit (recordsIn l) (recordOf l) kind q r (seen ok),
+    distances-fit (recordsIn l) (recordOf l) kind q r (seen ok),
+    omega (arith, used-few (recordsIn l) (recordOf l), whole l (ok .size) .1),
+  )
