@@ -1,0 +1,94 @@
+-- The call's ends: refused by the first tests or by the later ones, or placed (`ends-refused`, `ends-placed`), and what
+-- the placing may then know (`found-placeable`). Assumes nothing.
+use Prim.Native.Nat.{ℕ, _%_}
+use mathlib.Core.Bool.{Bool}
+use mathlib.Core.Path.{_≡_, sym, ap, ap₂, _∙_}
+use mathlib.Core.List.{List}
+use lib.ListN.{length}
+use borrow.Author.Tests.{eq-eqb, ne-eqb}
+use Rattle.places.specs.Choice.{pick}
+use Rattle.number.specs.Frame.{Bytes}
+use Rattle.distance.specs.Signature.{readingsAt, readings-fit}
+use Rattle.distance.specs.Kind.{apart}
+use Rattle.table.specs.Record.{recordOf}
+use Rattle.table.specs.Table.{recordsIn, recordsOf}
+use Rattle.table.specs.RoundTrip.{bytes-back}
+use Rattle.survey.specs.declared.Findings.{Findings}
+use Rattle.survey.specs.Survey.{slotOfCard}
+use Rattle.survey.specs.Pass.{Answers}
+use Rattle.view.specs.Refusal.{done, otherKind}
+use Rattle.view.specs.Place.{Newcomer, placed}
+use Rattle.insert.specs.Insert.{Outcome, refused, changed, refusalOf, inserted, insertOf}
+use Rattle.insert.specs.Refusals.{lateBy, lateOf}
+use Rattle.insert.specs.Accepted.{comer, accepted-size, accepted-ready, accepted-clock, size-whole}
+use Rattle.insert.specs.Newcomer.{newcomer}
+use Rattle.insert.specs.Hang.{leaves}
+use Rattle.insert.specs.Placeable.{Placeable}
+
+module _ (l : List ℕ) (card kind arity : ℕ) (s : List ℕ) where
+  abbrev n : ℕ
+  n = recordsIn l
+
+  -- ---- refused
+
+  pub ends-refused :
+      (k r c : ℕ)
+      → refusalOf l card kind arity s ≡ k
+      → (k ≡ done → ⊥)
+      → r ≡ k
+      → c ≡ 0
+      → _≡_ {A = Outcome} (record { refusal = r; count = c; table = l }) (insertOf l card kind arity s)
+  unfolding insertOf refused
+  ends-refused k r c e ne er ec = rw (e, ne-eqb k done ne, er, ec)
+
+  -- ---- the later tests
+
+  -- the survey's answers give the definition's tests
+  pub late-found :
+      {f : Findings} (answers : Answers n (recordOf l) f) (slot : ℕ)
+      → slot ≡ slotOfCard n (recordOf l) card
+      → lateBy f n kind slot ≡ lateOf l card kind arity s
+  unfolding otherKind
+  late-found answers slot at-slot = rw (answers .used, answers .kind, answers .lowest, answers .largest, at-slot)
+
+  -- ---- placed
+
+  module _ (none : refusalOf l card kind arity s ≡ done) {f : Findings} (answers : Answers n (recordOf l) f)
+      (bytes : Bytes s) (y : List ℕ) (read : y ≡ readingsAt s 0) where
+    abbrev x : Newcomer
+    x = newcomer card kind y
+
+    same-comer : comer card kind s ≡ x
+    same-comer = ap (newcomer card kind) (sym read)
+
+    pub found-placeable : Placeable l f x arity
+    found-placeable =
+        record {
+          answers = answers;
+          size = accepted-size l card kind arity s none;
+          ready = rw (answers .lowest, ← same-comer) (accepted-ready l card kind arity s none);
+          fit = rw read (readings-fit s 0 bytes);
+          clock = rw (answers .largest) (accepted-clock l card kind arity s none);
+        }
+
+    pub ends-placed :
+        (j : List ℕ) (r : ℕ)
+        → Bytes j
+        → length j ≡ length l
+        → leaves j r ≡ placed (apart kind) arity (f .lowest) x (recordsOf l)
+        → _≡_ {A = Outcome} (record { refusal = done; count = r; table = j }) (insertOf l card kind arity s)
+    unfolding insertOf changed inserted
+    ends-placed j r bytes-j long e =
+        let right = accepted-size l card kind arity s none in
+        let whole : length j % 64 ≡ 0 = ap (λ (k : ℕ). k % 64) long ∙ size-whole l right in
+        let p : leaves j r ≡ inserted l card kind arity s =
+        e
+        ∙ ap₂
+        (λ (i : ℕ) (z : Newcomer). placed (apart kind) arity i z (recordsOf l))
+        (answers .lowest)
+        (sym same-comer) in
+        ap (λ (k : List ℕ). record { refusal = done; count = r; table = k }) (sym (bytes-back j bytes-j whole))
+        ∙ ap changed p
+        ∙ ap
+        (λ (t : Bool). pick t (changed (inserted l card kind arity s)) (refused (refusalOf l card kind arity s) l))
+        (sym (eq-eqb (refusalOf l card kind arity s) done none))

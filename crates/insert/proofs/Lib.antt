@@ -1,0 +1,5 @@
+mod Writes
+mod Walking
+mod Hanging
+mod Placing
+mod Calling

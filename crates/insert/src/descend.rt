@@ -1,0 +1,92 @@
+// The walk of a newcomer (001, Algorithm 1): from the root to the record that it is to hang on.
+ghost use mathlib.Core.Path.{_≡_};
+ghost use Prim.Native.Nat.{_+_, _*_, _≤_, _<_};
+ghost use lib.ListN.{length};
+ghost use Rattle.distance.specs.Signature.{Fit};
+ghost use Rattle.distance.specs.Laws.{farthest};
+ghost use Rattle.distance.specs.Kind.{apart};
+ghost use Rattle.table.specs.Record.{recordOf, slot};
+ghost use Rattle.table.specs.Table.{recordsOf};
+ghost use Rattle.insert.specs.Descent.{Stands, Walkable, descent, descended};
+use super::record::raise;
+use distance::Signature;
+
+// Above every distance, so that the first child is always nearer.
+const FARTHER: u32 = 1048561;
+
+// Where the newcomer hangs, and the distances worked out.
+pub(crate) struct Attach {
+    pub(crate) slot: usize,
+    pub(crate) count: u32,
+}
+
+fn child_count(t: &[u8], s: usize) -> usize
+    requires { ⌜ Stands (now t) s ⌝ }
+    ensures { λ r. ⌜ r ≡ recordOf (now (t .entry)) s .count ⌝ }
+{
+    table::count_of(t, s) as usize
+}
+
+fn child(t: &[u8], s: usize, i: usize) -> usize
+    requires { ⌜ Stands (now t) s × (i < 8) ⌝ }
+    ensures { λ r. ⌜ r ≡ slot (recordOf (now (t .entry)) s) i ⌝ }
+{
+    table::slot_of(t, s, i) as usize
+}
+
+// The distance of the record in slot s to x.
+fn away_from(t: &[u8], kind: u8, x: Signature, s: usize) -> u32
+    requires { ⌜ Stands (now t) s ⌝ }
+    ensures { λ r. ⌜ (r ≡ apart kind (recordOf (now (t .entry)) s .readings) (x .readings)) × (r ≤ farthest) ⌝ }
+{
+    distance::apart(kind, table::signature_of(t, s), x)
+}
+
+// The walk from the root, at most `depth` records deep. At each turn what is left of it leads from slot a, at the
+// distance `away`, to the same end; inside, `best` is the nearest of the first k children, the oldest if equally near.
+pub(crate) fn descend(
+    t: &mut [u8],
+    kind: u8,
+    x: Signature,
+    arity: usize,
+    root: usize,
+    depth: usize,
+) -> Attach
+    requires { ⌜ Walkable (now t) × Stands (now t) root × Fit (x .readings) × (1 ≤ depth) × (depth ≤ 1024) ⌝ }
+    ensures { λ r. ⌜ (descent (recordsOf (now (t .exit))) (r .slot) (r .count)
+        ≡ descended (apart kind) (x .readings) arity (recordsOf (now (t .entry))) depth root 1)
+        × (r .count ≤ 1 + 8 * depth) ⌝ }
+{
+    let mut a = root;
+    let mut away = away_from(t, kind, x, root);
+    let mut left = depth;
+    let mut count: u32 = 1;
+    let slot = loop {
+        raise(t, a, away);
+        left -= 1;
+        let n = child_count(t, a);
+        count += n as u32;
+        let mut best = a;
+        let mut near = FARTHER;
+        let mut k = 0;
+        while k < n {
+            let c = child(t, a, k);
+            let e = away_from(t, kind, x, c);
+            if e < near {
+                best = c;
+                near = e;
+            }
+            k += 1;
+        }
+        // the depth left never runs out in a well-formed table
+        if ((n == 0) | (left == 0)) | ((away < near) & (n < arity)) {
+            break a;
+        }
+        a = best;
+        away = near;
+    };
+    Attach {
+        slot: slot,
+        count: count,
+    }
+}
