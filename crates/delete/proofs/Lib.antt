@@ -1,0 +1,2 @@
+mod Gathering
+mod Writes

@@ -1,0 +1,218 @@
+-- `delete::gather::gather` meets its contract. The falling number is the depth left. The loop's invariant: what is left of the
+-- children's turn, gathered after the keys so far, is what this record and all below it give. Assumes nothing.
+use Prim.Native.Nat.{ℕ, _+_, _-_, _≤_, _<_}
+use mathlib.Core.Path.{_≡_, refl, sym, ap, _∙_}
+use mathlib.Core.List.{List}
+use native.Mathlib.Omega.{arith}
+use borrow.Author.Needs.{needs}
+use lib.ListN.{length, length-append}
+use borrow.Fn.Kinds.{In}
+use borrow.Fn.PlainCycle.{Measures, is, falls, and}
+use Rattle.table.specs.Record.{recordOf}
+use Rattle.delete.specs.Gather.{Gathered, slotsUnder, gathered}
+use Rattle.delete.proofs.Gathering
+use Rattle.delete.proofs.Gathering.{slots-length}
+use Rattle.delete.proofs.gather.gather.Reads as gather
+use Rattle.delete.proofs.gather.gather.Kinds as gather-kinds
+use Rattle.delete.proofs.gather.+gather.Lts-gather as gather-lts
+use Rattle.delete.proofs.gather.child_count.Reads as child-count-reads
+use Rattle.delete.proofs.gather.note_key.Reads as note-key-reads
+use Rattle.table.proofs.slot_of.Reads as slot-of-reads
+use Rattle.delete.proofs.gather.+gather.{statement}
+use Rattle.delete.proofs.gather.+gather.Tie.{close}
+
+-- the depth left
+abbrev μ-gather : Measures 2 gather-kinds.ps ℕ
+μ-gather κs a = a .1 .1 .1 .1 .0
+
+abbrev gather-at : ℕ → In 2 gather-kinds.ps
+gather-at t = and 2 gather-kinds.ps (is 2 gather-kinds.ps μ-gather t) gather.Pre
+
+abbrev gather-below : ℕ → In 2 gather-kinds.ps
+gather-below t = and 2 gather-kinds.ps (falls 2 gather-kinds.ps _<_ μ-gather t) gather.Pre
+
+abbrev Inv-loop : gather-lts.InvT-loop
+Inv-loop t a keys₀ m left n at₀ k₀ keys at k =
+    (k ≤ n) × (length keys ≡ length keys₀)
+    × (gathered (recordOf t) keys at (Gathering.restFrom (recordOf t) (left - 1) a k)
+    ≡ gathered (recordOf t) keys₀ at₀ (Gathering.restFrom (recordOf t) (left - 1) a 0))
+
+abbrev μ-loop : gather-lts.MeasureT-loop
+μ-loop t a keys₀ m left n at₀ k₀ keys at k = n - k
+
+abbrev Known : ℕ → gather-lts.Claims
+Known t = (
+  note-key-reads.Asked,
+  note-key-reads.Learnt,
+  child-count-reads.Asked,
+  child-count-reads.Learnt,
+  slot-of-reads.Asked,
+  slot-of-reads.Learnt,
+  gather-below t,
+  gather.Post,
+)
+
+module _ (τ : ℕ) where
+  returns : gather-lts.Need-returns (Known τ) (gather-at τ) gather.Post Inv-loop μ-loop
+  returns c =
+      let a = c .before .before .before .args in
+      let R = recordOf (a .t .now) in
+      Gathering.gathered-none R (a .keys .now) (a .m) (slotsUnder R (a .left) (a .a))
+      (Gathering.under-end R (a .left) (a .a) (c .if1 .taken))
+
+  note-key-requires : gather-lts.Need-note-key-requires (Known τ) (gather-at τ) gather.Post Inv-loop μ-loop
+  note-key-requires c κs =
+      let a = c .before .before .before .before .args in
+      let R = recordOf (a .t .now) in
+      let p = c .before .before .before .before .pre .1 in
+      (p .1, p .2, omega (arith, p .3, ap length (Gathering.under-first R (a .left) (a .a) (c .before .if1 .left))))
+
+  child-count-requires : gather-lts.Need-child-count-requires (Known τ) (gather-at τ) gather.Post Inv-loop μ-loop
+  child-count-requires c κs = search needs
+
+  add-at : gather-lts.Need-add-at (Known τ) (gather-at τ) gather.Post Inv-loop μ-loop
+  add-at c =
+      let a = c .before .before .before .before .before .before .before .before .args in
+      let R = recordOf (a .t .now) in
+      let some = ap length (Gathering.under-first R (a .left) (a .a) (c .before .before .before .before .before .if1 .left)) in
+      let room : a .m < length (a .keys .now) = omega (arith, c .before .before .before .before .before .before .before .before .pre .1 .3, some) in
+      search needs
+
+  -- this record's key is written: the children's turn is left
+  begun : (c : gather-lts.After-child-count (Known τ) (gather-at τ) gather.Post Inv-loop μ-loop) →
+      let a = c .before .before .before .before .before .before .before .before .args in
+      let R = recordOf (a .t .now) in
+      gathered R (c .before .before .before .note-key .last .1 .1 .0) (a .m + 1) (Gathering.restFrom R (a .left - 1) (a .a) 0)
+      ≡ gathered R (a .keys .now) (a .m) (slotsUnder R (a .left) (a .a))
+  begun c =
+      let a = c .before .before .before .before .before .before .before .before .args in
+      let R = recordOf (a .t .now) in
+      let rest = Gathering.restFrom R (a .left - 1) (a .a) 0 in
+      ap (λ (l : List ℕ). gathered R l (a .m + 1) rest) (c .before .before .before .note-key .ensures)
+      ∙ Gathering.gathered-first R (a .keys .now) (a .m) (a .a) rest
+      ∙ ap (gathered R (a .keys .now) (a .m)) (sym (Gathering.under-first R (a .left) (a .a) (c .before .before .before .before .before .if1 .left)))
+
+  few : (c : gather-lts.After-child-count (Known τ) (gather-at τ) gather.Post Inv-loop μ-loop) →
+      let a = c .before .before .before .before .before .before .before .before .args in
+      (c .child-count .result ≡ recordOf (a .t .now) (a .a) .count)
+      × (c .child-count .result ≤ 8)
+      × (recordOf (a .t .now) (a .a) .count ≤ length (recordOf (a .t .now) (a .a) .slots))
+  few c =
+      let a = c .before .before .before .before .before .before .before .before .args in
+      let p = c .before .before .before .before .before .before .before .before .pre .1 in
+      let h : recordOf (a .t .now) (a .a) .count ≤ 8 = p .0 .few (a .a) (p .1) in
+      (c .child-count .ensures, omega (arith, c .child-count .ensures), omega (arith, slots-length (a .t .now) (a .a)))
+
+  loop-holds : gather-lts.Need-loop-holds (Known τ) (gather-at τ) gather.Post Inv-loop μ-loop
+  loop-holds c = (search needs, refl, refl)
+
+  -- the loop's keys and what is left lead to what the contract says
+  on : (c : gather-lts.At-loop (Known τ) (gather-at τ) gather.Post Inv-loop μ-loop) →
+      let a = c .before .before .before .before .before .before .before .before .before .args in
+      let R = recordOf (a .t .now) in
+      gathered R (c .loop .keys) (c .loop .at) (Gathering.restFrom R (a .left - 1) (a .a) (c .loop .k))
+      ≡ gathered R (a .keys .now) (a .m) (slotsUnder R (a .left) (a .a))
+  on c = c .loop .inv .2 ∙ begun (c .before)
+
+  reach : (c : gather-lts.At-loop (Known τ) (gather-at τ) gather.Post Inv-loop μ-loop) →
+      let a = c .before .before .before .before .before .before .before .before .before .args in
+      let R = recordOf (a .t .now) in
+      (length (c .loop .keys) ≡ length (a .keys .now))
+      × (c .loop .at + length (Gathering.restFrom R (a .left - 1) (a .a) (c .loop .k)) ≡ a .m + length (slotsUnder R (a .left) (a .a)))
+  reach c =
+      let a = c .before .before .before .before .before .before .before .before .before .args in
+      let R = recordOf (a .t .now) in
+      let rest = Gathering.restFrom R (a .left - 1) (a .a) (c .loop .k) in
+      let all = slotsUnder R (a .left) (a .a) in (
+        sym (Gathering.gathered-length R (c .loop .keys) (c .loop .at) rest)
+            ∙ ap (λ (g : Gathered). length (g .keys)) (on c)
+            ∙ Gathering.gathered-length R (a .keys .now) (a .m) all,
+        sym (Gathering.gathered-at R (c .loop .keys) (c .loop .at) rest)
+            ∙ ap (λ (g : Gathered). g .at) (on c)
+            ∙ Gathering.gathered-at R (a .keys .now) (a .m) all,
+      )
+
+  slot-of-requires : gather-lts.Need-slot-of-requires (Known τ) (gather-at τ) gather.Post Inv-loop μ-loop
+  slot-of-requires c κs =
+      let f = few (c .before .before) in
+      (c .before .before .before .before .before .before .before .before .before .before .pre .1 .1, omega (arith, f .1, c .loop-test .taken))
+
+  cast-c : gather-lts.Need-cast-c (Known τ) (gather-at τ) gather.Post Inv-loop μ-loop
+  cast-c c = search needs
+
+  sub-gather : gather-lts.Need-sub-gather (Known τ) (gather-at τ) gather.Post Inv-loop μ-loop
+  sub-gather c = search needs
+
+  gather-requires : gather-lts.Need-gather-requires (Known τ) (gather-at τ) gather.Post Inv-loop μ-loop
+  gather-requires c κs =
+      let a = c .before .before .before .before .before .before .before .before .before .before .before .before .args in
+      let R = recordOf (a .t .now) in
+      let p = c .before .before .before .before .before .before .before .before .before .before .before .before .pre in
+      let l = c .before .before .before .loop in
+      let f = few (c .before .before .before .before) in
+      let k : l .k < R (a .a) .count = omega (arith, f .0, c .before .before .loop-test .taken) in
+      let more = ap length (Gathering.rest-more R (a .left - 1) (a .a) (l .k) (c .before .slot-of .result) (f .2) k (c .before .slot-of .ensures)) in (
+        omega (arith, p .0, c .before .before .before .before .before .before .before .before .before .if1 .left),
+        (
+          p .1 .0,
+          rw (c .before .slot-of .ensures) (p .1 .0 .stand (a .a) (l .k) (p .1 .1) k),
+          p .1 .2,
+          omega (arith, more, length-append (slotsUnder R (a .left - 1) (c .before .slot-of .result)) (Gathering.restFrom R (a .left - 1) (a .a) (l .k + 1)), reach (c .before .before .before) .0, reach (c .before .before .before) .1, p .1 .3),
+        ),
+      )
+
+  add-k : gather-lts.Need-add-k (Known τ) (gather-at τ) gather.Post Inv-loop μ-loop
+  add-k c = search needs
+
+  loop-less : gather-lts.Need-loop-less (Known τ) (gather-at τ) gather.Post Inv-loop μ-loop
+  loop-less c = search needs
+
+  loop-again : gather-lts.Need-loop-again (Known τ) (gather-at τ) gather.Post Inv-loop μ-loop
+  loop-again c =
+      let a = c .before .before .before .before .before .before .before .before .before .before .before .before .before .before .before .args in
+      let R = recordOf (a .t .now) in
+      let l = c .before .before .before .before .before .before .loop in
+      let f = few (c .before .before .before .before .before .before .before) in
+      let k : l .k < R (a .a) .count = omega (arith, f .0, c .before .before .before .before .before .loop-test .taken) in
+      let at-child = c .before .before .before .before .slot-of in
+      let low = slotsUnder R (a .left - 1) (at-child .result) in
+      let rest = Gathering.restFrom R (a .left - 1) (a .a) (l .k + 1) in
+      let came = c .before .before .gather .ensures in (
+        omega (arith, k, f .0),
+        ap (λ (g : Gathered). length (g .keys)) came ∙ Gathering.gathered-length R (l .keys) (l .at) low ∙ l .inv .1,
+        ap (λ (g : Gathered). gathered R (g .keys) (g .at) rest) came
+            ∙ sym (Gathering.gathered-append R (l .keys) (l .at) low rest)
+            ∙ ap (gathered R (l .keys) (l .at))
+            (sym (Gathering.rest-more R (a .left - 1) (a .a) (l .k) (at-child .result) (f .2) k (at-child .ensures)))
+            ∙ l .inv .2,
+      )
+
+  same-length : gather-lts.Need-same-length (Known τ) (gather-at τ) gather.Post Inv-loop μ-loop
+  same-length c = reach (c .before) .0
+
+  returns-2 : gather-lts.Need-returns-2 (Known τ) (gather-at τ) gather.Post Inv-loop μ-loop
+  returns-2 c =
+      let a = c .before .before .before .before .before .before .before .before .before .before .args in
+      let R = recordOf (a .t .now) in
+      let l = c .before .loop in
+      let f = few (c .before .before) in
+      Gathering.gathered-none R (l .keys) (l .at) _
+      (Gathering.rest-end R (a .left - 1) (a .a) (l .k) (f .2) (omega (arith, f .0, c .loop-test .left)))
+      ∙ on (c .before)
+
+pub +gather-spec : {M : Type 1} → statement M
++gather-spec = close μ-gather λ τ. gather-lts.spec (Known τ) (gather-at τ) gather.Post Inv-loop μ-loop
+    (returns τ)
+    (note-key-requires τ)
+    (child-count-requires τ)
+    (add-at τ)
+    (loop-holds τ)
+    (slot-of-requires τ)
+    (cast-c τ)
+    (sub-gather τ)
+    (gather-requires τ)
+    (add-k τ)
+    (loop-less τ)
+    (loop-again τ)
+    (same-length τ)
+    (returns-2 τ)

@@ -1,0 +1,123 @@
+// The call: all tests before any write.
+ghost use mathlib.Core.Path.{_≡_};
+ghost use mathlib.Core.Bool.{_&&_};
+ghost use Prim.Native.Nat.{ℕ, _+_, _*_, _≤_, _<_};
+ghost use lib.Dec.{leb};
+ghost use lib.ListN.{length};
+ghost use Rattle.table.specs.Record.{recordOf};
+ghost use Rattle.table.specs.Table.{rightSize, recordsIn, recordsOf};
+ghost use Rattle.judge.specs.WellFormed.{wellFormed};
+ghost use Rattle.view.specs.Refusal.{knownArity};
+ghost use Rattle.insert.specs.Insert.{Outcome};
+ghost use Rattle.insert.specs.Refusals.{early};
+ghost use Rattle.delete.specs.Delete.{deleteOf};
+ghost use Rattle.delete.specs.Leaving.{Held};
+ghost use Rattle.delete.specs.Plan.{outcomeAt};
+use super::back::put_back;
+use super::clock::last_staying;
+use super::gather::in_age_order;
+use super::remove::unhang;
+use insert::Changed;
+
+// The refusal numbers that delete gives; 0 means done.
+const DONE: u8 = 0;
+
+const SIZE: u8 = 1;
+
+const TABLE: u8 = 2;
+
+const ARGUMENT: u8 = 3;
+
+const ABSENT: u8 = 6;
+
+const CLOCK: u8 = 8;
+
+// Bytes of a record, and the largest arity.
+const RECORD: usize = 64;
+
+const MOST: u8 = 8;
+
+// The largest timestamp that four bytes hold.
+const LAST: u64 = 4294967295;
+
+// The card in slot v leaves a well-formed table of n records, unless a fresh timestamp would pass the last.
+fn delete_at(t: &mut [u8], v: usize, n: usize, arity: u8) -> Changed
+    requires { ⌜ Held (recordsOf (now t)) v × (n * 64 ≡ length (now t)) × (arity ≤ 8) ⌝ }
+    ensures { λ r. ⌜ _≡_ {A = Outcome} (record { refusal = r .refusal; count = r .count; table = now (t .exit) })
+        (outcomeAt (now (t .entry)) v arity) ⌝ }
+{
+    let seen = survey::survey(t, n);
+    let mut keys = [0u64; 1024];
+    let m = in_age_order(t, v, seen.used, &mut keys);
+    let last = last_staying(t, &keys[..m], n);
+    if LAST < last as u64 + m as u64 - 1 {
+        return Changed {
+            refusal: CLOCK,
+            count: 0,
+        };
+    }
+    unhang(t, v);
+    let count = put_back(
+        t,
+        &keys[..m],
+        seen.kind,
+        arity,
+        seen.root,
+        seen.used - m,
+        last,
+    );
+    Changed {
+        refusal: DONE,
+        count: count,
+    }
+}
+
+fn right_arguments(card: u32, arity: u8) -> bool
+    ensures { λ r. ⌜ r ≡ leb 1 card && knownArity arity ⌝ }
+{
+    (1 <= card) & ((1 <= arity) & (arity <= MOST))
+}
+
+// The refusals by the table's size and form and the arguments; 0 if there is none.
+fn early_refusal(t: &[u8], card: u32, arity: u8) -> u8
+    ensures { λ r. ⌜ r ≡ early (rightSize (length (now (t .entry))))
+        (wellFormed (recordsIn (now (t .entry))) (recordOf (now (t .entry)))) (leb 1 card && knownArity arity) ⌝ }
+{
+    if !table::right_size(t) {
+        return SIZE;
+    }
+    if !judge::well_formed(t, t.len() / RECORD) {
+        return TABLE;
+    }
+    if right_arguments(card, arity) {
+        DONE
+    } else {
+        ARGUMENT
+    }
+}
+
+fn refused(refusal: u8) -> Changed
+    ensures { λ r. ⌜ (r .refusal ≡ refusal) × (r .count ≡ 0) ⌝ }
+{
+    Changed {
+        refusal: refusal,
+        count: 0,
+    }
+}
+
+// Deletes the card. A refused call leaves the table as it was.
+pub fn delete(t: &mut [u8], card: u32, arity: u8) -> Changed
+    ensures { λ r. ⌜ _≡_ {A = Outcome} (record { refusal = r .refusal; count = r .count; table = now (t .exit) })
+        (deleteOf (now (t .entry)) card arity) ⌝ }
+{
+    let first = early_refusal(t, card, arity);
+    if first != DONE {
+        return refused(first);
+    }
+    let n = t.len() / RECORD;
+    let v = survey::slot_of_card(t, n, card);
+    if n <= v {
+        return refused(ABSENT);
+    }
+    delete_at(t, v, n, arity)
+}
