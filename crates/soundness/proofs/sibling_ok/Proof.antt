@@ -1,0 +1,44 @@
+-- `soundness::sibling_ok` meets its contract: b itself is not farther than b, and a younger record is not asked.
+-- Assumes nothing.
+use mathlib.Core.Path.{sym}
+use native.Mathlib.Omega.{arith}
+use borrow.Author.Needs.{needs}
+use Rattle.table.specs.Record.{recordOf}
+use Rattle.soundness.specs.Climb.{sibling-same, sibling-younger, sibling-older}
+use Rattle.soundness.proofs.sibling_ok.Statement.{statement}
+use Rattle.soundness.proofs.sibling_ok.Tie as tie
+
+timestamp-of-requires : tie.Need-timestamp-of-requires
+timestamp-of-requires c κs = omega arith
+
+signature-of-requires : tie.Need-signature-of-requires
+signature-of-requires c κs = omega arith
+
+apart-requires : tie.Need-apart-requires
+apart-requires c κs = search needs
+
+returns : tie.Need-returns
+returns c =
+    let a = c .before .before .args in
+    sym (sibling-same (recordOf (a .t .now)) (a .kind) (a .x .readings) (a .time) (a .b) (a .c) (c .if1 .taken))
+
+returns-2 : tie.Need-returns-2
+returns-2 c =
+    let a = c .before .before .before .before .before .before .args in
+    cc (sibling-older (recordOf (a .t .now)) (a .kind) (a .x .readings) (a .time) (a .b) (a .c) (omega arith))
+
+returns-3 : tie.Need-returns-3
+returns-3 c =
+    let a = c .before .before .before .before .args in
+    sym (sibling-younger (recordOf (a .t .now)) (a .kind) (a .x .readings) (a .time) (a .b) (a .c) (omega arith))
+
+pub sibling-ok-spec : {M : Type 1} → statement M
+sibling-ok-spec =
+    tie.close
+    (tie.spec
+    timestamp-of-requires
+    signature-of-requires
+    apart-requires
+    returns
+    returns-2
+    returns-3)

@@ -1,0 +1,93 @@
+-- What the check call uses of its definition: each refusal in its place, and the route for the paper's words where the
+-- table is of the right size and well formed. And what its answer says: done exactly if the table is sound.
+-- Assumes nothing.
+use Prim.Native.Nat.{ℕ, _*_, _/_, _%_, _≤_}
+use mathlib.Core.Path.{_≡_, refl}
+use mathlib.Core.Bool.{Bool, true, false, _&&_, not}
+use mathlib.Core.List.{List, [], _∷_}
+use native.Mathlib.Omega.{arith}
+use lib.Dec.{leb}
+use lib.ListN.{length}
+use borrow.Author.Tests.{leb-true, eqb-true}
+use Rattle.places.specs.Choice.{and-left, and-right}
+use Rattle.table.specs.Record.{recordOf, mostRecords}
+use Rattle.table.specs.Table.{rightSize, recordsIn}
+use Rattle.judge.specs.WellFormed.{wellFormed}
+use Rattle.judge.specs.Decided.{formed-decided}
+use Rattle.view.specs.Refusal.{SIZE, TABLE, LOOSE, done, firstOf}
+use Rattle.view.specs.Shaped.{shaped-bytes}
+use Rattle.view.specs.Sound.{SoundTable}
+use Rattle.soundness.specs.Soundness.{isSound, checkOf}
+use Rattle.soundness.specs.Decided.{sound-decided}
+use Rattle.soundness.specs.Climb.{route}
+use Rattle.soundness.specs.Route.{route-is}
+use Rattle.soundness.specs.Stands.{Whole}
+
+-- a table of the right size holds whole records, at most 1,024 of them
+pub whole : (n : ℕ) → rightSize n ≡ true → (n ≡ n / 64 * 64) × (n / 64 ≤ mostRecords)
+unfolding rightSize
+whole n h =
+    let range = and-left (leb 64 n && leb n 65536) _ h in
+    let most = leb-true n 65536 (and-right (leb 64 n) _ range) in
+    let even = eqb-true (n % 64) 0 (and-right (leb 64 n && leb n 65536) _ h) in
+    (omega arith, omega arith)
+
+module _ (l : List ℕ) where
+  pub check-size : rightSize (length l) ≡ false → checkOf l ≡ SIZE
+  unfolding checkOf
+  check-size e = rw e
+
+  module _ (size : rightSize (length l) ≡ true) where
+    pub check-table : wellFormed (recordsIn l) (recordOf l) ≡ false → checkOf l ≡ TABLE
+    unfolding checkOf
+    check-table e = rw (size, e)
+
+    module _ (formed : wellFormed (recordsIn l) (recordOf l) ≡ true) where
+      pub check-whole : Whole l
+      check-whole = formed-decided (recordsIn l) (recordOf l) .shows formed
+
+      -- the route stands for the paper's words
+      route-sound : route (recordsIn l) (recordOf l) ≡ isSound (recordsIn l) (recordOf l)
+      route-sound =
+          let w = whole (length l) size in
+          route-is (w .1) (shaped-bytes (recordsIn l) l (w .0)) check-whole
+
+      pub check-loose : route (recordsIn l) (recordOf l) ≡ false → checkOf l ≡ LOOSE
+      unfolding checkOf
+      check-loose e = rw (size, formed, ← route-sound, e)
+
+      pub check-done : route (recordsIn l) (recordOf l) ≡ true → checkOf l ≡ done
+      unfolding checkOf
+      check-done e = rw (size, formed, ← route-sound, e)
+
+-- ---- what the answer says of the table
+
+-- where no test refuses, all three are passed
+all-passed :
+    (size formed sound : Bool)
+    → firstOf ((not size, SIZE) ∷ (not formed, TABLE) ∷ (not sound, LOOSE) ∷ []) ≡ done
+    → (size ≡ true) × (formed ≡ true) × (sound ≡ true)
+all-passed true true true e = (refl, refl, refl)
+all-passed true true false e = absurd (omega arith)
+all-passed true false sound e = absurd (omega arith)
+all-passed false formed sound e = absurd (omega arith)
+
+module _ (l : List ℕ) where
+  -- a check that is done saw a sound table
+  pub done-sound : checkOf l ≡ done → (rightSize (length l) ≡ true) × SoundTable (recordsIn l) (recordOf l)
+  unfolding checkOf
+  done-sound e =
+      let n = recordsIn l in
+      let p = all-passed (rightSize (length l)) (wellFormed n (recordOf l)) (isSound n (recordOf l)) e in
+      let w = whole (length l) (p .0) in
+      let well = formed-decided n (recordOf l) .shows (p .1) in
+      (p .0, sound-decided (w .1) (shaped-bytes n l (w .0)) well .shows (p .2))
+
+  -- and on a sound table it is done
+  pub sound-done : rightSize (length l) ≡ true → SoundTable (recordsIn l) (recordOf l) → checkOf l ≡ done
+  unfolding checkOf
+  sound-done size s =
+      let w = whole (length l) size in
+      let formed = formed-decided (recordsIn l) (recordOf l) .passes (s .well-formed) in
+      let sound = sound-decided (w .1) (shaped-bytes (recordsIn l) l (w .0)) (s .well-formed) .passes s in
+      rw (size, formed, sound)
