@@ -1,0 +1,109 @@
+-- Where that holds which is asked of a table after every history (`Holds`): in a cleared table, and in the bytes of a
+-- row of records that they hold (`table-holds`). Assumes nothing.
+use Prim.Native.Nat.{ℕ, _*_, _%_, _≤_}
+use mathlib.Core.Path.{_≡_, ap, subst, _∙_}
+use mathlib.Core.Bool.{true, _&&_}
+use mathlib.Core.Logic.{_↔_}
+use mathlib.Core.List.{List, [], List·Memᴰ, List·Memᴰ·not-nil}
+use native.Mathlib.Omega.{arith}
+use lib.Dec.{leb, eqb}
+use lib.ListN.{length, replicate, length-replicate, getD-replicate, List·getD-eq-default}
+use borrow.Author.Tests.{le-leb, eq-eqb}
+use Rattle.places.specs.Choice.{and-both}
+use Rattle.number.specs.Frame.{Bytes}
+use Rattle.table.specs.Record.{Record, Used, recordOf, mostRecords}
+use Rattle.table.specs.Table.{rightSize, recordsIn, recordsOf, at, bytesOf}
+use Rattle.table.specs.Cases.{below-or}
+use Rattle.table.specs.Same.{all-free}
+use Rattle.table.specs.Records.{records-at}
+use Rattle.table.specs.RoundTrip.{FittingRow, row-fits}
+use Rattle.judge.specs.WellFormed.{WellFormed}
+use Rattle.tree.specs.Slots.{Distinct}
+use Rattle.view.specs.Place.{Newcomer}
+use Rattle.view.specs.Stored.{Stored}
+use Rattle.view.specs.Formed.{free-formed}
+use Rattle.view.specs.Sound.{SoundTable}
+use Rattle.history.specs.History.{State, cleared}
+use Rattle.history.specs.Demands.{Holds, cardsOf}
+use Rattle.history.specs.BytesOf.{bytes-length, bytes-bytes}
+
+-- ---- a cleared table
+
+pub zeros-bytes : (m : ℕ) → Bytes (replicate m 0)
+zeros-bytes m i =
+    below-or i m
+    (λ h. omega (arith, getD-replicate {A = ℕ} m i 0 0 h))
+    (λ h.
+    let past : m ≤ i = h in
+    omega (arith, List·getD-eq-default {A = ℕ} (replicate m 0) 0 {n = i} (omega (arith, length-replicate {A = ℕ} m 0))))
+
+pub zeros-hold : (n : ℕ) → Holds n (record { table = replicate (n * 64) 0; stored = [] })
+zeros-hold n =
+    let l : List ℕ = replicate (n * 64) 0 in
+    let size : length l ≡ n * 64 = length-replicate {A = ℕ} (n * 64) 0 in
+    let wf : WellFormed n (recordOf l) = free-formed (λ s b. all-free (n * 64) s) in
+    let unused : (s : ℕ) → Used (recordOf l s) → ⊥ =
+    λ s u. omega (arith, ap (λ (r : Record). r .card) (all-free (n * 64) s)) in
+    record {
+      size = size;
+      bytes = zeros-bytes (n * 64);
+      well-formed = wf;
+      sound =
+          record {
+            well-formed = wf;
+            sound =
+                record {
+                  cover = λ k a x u p. absurd (unused a u);
+                  near = λ k a b c x u ib ic p h. absurd (unused a u);
+                };
+          };
+      stored = λ x. (λ z. absurd (unused (z .0) (z .1 .used)), λ i. absurd (List·Memᴰ·not-nil i));
+      once = tt;
+    }
+
+pub cleared-holds : (n : ℕ) → Holds n (cleared n)
+unfolding cleared
+cleared-holds n = zeros-hold n
+
+-- ---- the size
+
+right-size : (n : ℕ) → 1 ≤ n → n ≤ mostRecords → rightSize (n * 64) ≡ true
+unfolding rightSize
+right-size n some small =
+    and-both (leb 64 (n * 64) && leb (n * 64) 65536) (eqb (n * 64 % 64) 0)
+    (and-both (leb 64 (n * 64)) (leb (n * 64) 65536)
+    (le-leb 64 (n * 64) (omega arith))
+    (le-leb (n * 64) 65536 (omega arith)))
+    (eq-eqb (n * 64 % 64) 0 (omega arith))
+
+-- no call refuses such a table for its size
+pub sized : {n : ℕ} {st : State} → 1 ≤ n → n ≤ mostRecords → Holds n st → rightSize (length (st .table)) ≡ true
+sized {n} some small h = rw (h .size) (right-size n some small)
+
+pub records-are : {n : ℕ} {st : State} → Holds n st → recordsIn (st .table) ≡ n
+records-are h = omega (arith, h .size)
+
+-- ---- a table that a call leaves: the bytes of a row of records, and they hold that row
+
+pub table-holds :
+    {n : ℕ} (t : List ℕ) (rows : List Record) (stored : List Newcomer)
+    → t ≡ bytesOf rows
+    → recordsOf t ≡ rows
+    → recordsIn t ≡ n
+    → SoundTable n (at (recordsOf t))
+    → ((x : Newcomer) → Stored n (at (recordsOf t)) x ↔ List·Memᴰ x stored)
+    → Distinct (cardsOf stored)
+    → Holds n (record { table = t; stored = stored })
+table-holds {n} t rows stored is back e ok each once =
+    let bytes : Bytes t = rw is (bytes-bytes rows) in
+    let fit : FittingRow rows = subst FittingRow back (row-fits t bytes) in
+    let long : length t ≡ length rows * 64 = ap length is ∙ bytes-length rows fit in
+    let same : at (recordsOf t) ≡ recordOf t = λ i s. records-at t (omega arith) s i in
+    record {
+      size = omega arith;
+      bytes = bytes;
+      well-formed = subst (WellFormed n) same (ok .well-formed);
+      sound = subst (SoundTable n) same ok;
+      stored = λ x. subst (λ (R : ℕ → Record). Stored n R x ↔ List·Memᴰ x stored) same (each x);
+      once = once;
+    }

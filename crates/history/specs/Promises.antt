@@ -1,0 +1,159 @@
+-- The promises, whole. Each call's outcome (`clearOf`, `insertOf`, `deleteOf`, `searchOf`, `checkOf`) is what its
+-- contract equates the code with, so each statement here is about what the code does. Read first History.antt, what a
+-- history is, and Demands.antt, what is asked. Assumes nothing.
+use Prim.Native.Nat.{ℕ, _≤_}
+use mathlib.Core.Path.{_≡_, refl, sym, _∙_}
+use mathlib.Core.Bool.{_&&_, not}
+use mathlib.Core.List.{List, [], _∷_}
+use lib.Dec.{leb, ltb, eqb}
+use lib.ListN.{length}
+use Rattle.table.specs.Record.{recordOf, mostRecords}
+use Rattle.table.specs.Table.{rightSize, recordsIn, recordsOf}
+use Rattle.table.specs.Clear.{Cleared, clearOf}
+use Rattle.judge.specs.WellFormed.{wellFormed}
+use Rattle.survey.specs.Survey.{usedIn, slotOfCard, lowestFree, largestTimestamp}
+use Rattle.view.specs.Refusal.{SIZE, TABLE, ARGUMENT, KIND, TWICE, ABSENT, FULL, CLOCK, SHORT, LOOSE, firstOf}
+use Rattle.view.specs.Refusal.{knownKind, knownArity, otherKind, done}
+use Rattle.insert.specs.Insert.{Outcome, insertOf, rightArguments, lastTimestamp}
+use Rattle.insert.specs.Insert as Insert
+use Rattle.insert.specs.Promises as Inserts
+use Rattle.delete.specs.Delete.{deleteOf, clockWouldPass}
+use Rattle.delete.specs.Delete as Delete
+use Rattle.delete.specs.Promises as Deletes
+use Rattle.search.specs.Search.{searchOf}
+use Rattle.search.specs.Search as Search
+use Rattle.search.specs.Promises.{refusal-is, count-narrower}
+use Rattle.soundness.specs.Soundness.{isSound, checkOf}
+use Rattle.history.specs.History.{Call, AllTyped, State, cleared, run}
+use Rattle.history.specs.Demands.{Holds, Finds, Refuses}
+use Rattle.history.specs.Kept.{run-holds}
+use Rattle.history.specs.Searched.{search-finds, check-done}
+use Rattle.history.specs.Refused.{clear-refusal, clear-untouched, insert-refusal, delete-refusal}
+use Rattle.history.specs.Refused.{search-untouched}
+
+-- ---- demand 1: each call refuses by the first of its tests that holds, and a refused call leaves all as it was
+
+module _ (l : List ℕ) where
+  pub clear-refuses : Refuses ((not (rightSize (length l)), SIZE) ∷ []) (clearOf l .refusal) (clearOf l .table ≡ l)
+  clear-refuses = record { first = clear-refusal l; untouched = clear-untouched l }
+
+  pub insert-refuses :
+      (card kind arity : ℕ) (signature : List ℕ)
+      → Refuses
+      ((not (rightSize (length l)), SIZE)
+      ∷ (not (wellFormed (recordsIn l) (recordOf l)), TABLE)
+      ∷ (not ((leb 1 card && knownArity arity) && (knownKind kind && eqb (length signature) 32)), ARGUMENT)
+      ∷ (otherKind (recordsIn l) (recordOf l) kind, KIND)
+      ∷ (ltb (slotOfCard (recordsIn l) (recordOf l) card) (recordsIn l), TWICE)
+      ∷ (leb (recordsIn l) (lowestFree (recordsIn l) (recordOf l)), FULL)
+      ∷ (leb lastTimestamp (largestTimestamp (recordsIn l) (recordOf l)), CLOCK)
+      ∷ [])
+      (insertOf l card kind arity signature .refusal)
+      ((insertOf l card kind arity signature .count ≡ 0) × (insertOf l card kind arity signature .table ≡ l))
+  unfolding Insert.refusalOf rightArguments
+  insert-refuses card kind arity s =
+      record {
+        first = insert-refusal l card kind arity s;
+        untouched = Inserts.refused-touches-nothing l card kind arity s;
+      }
+
+  pub delete-refuses :
+      (card arity : ℕ)
+      → Refuses
+      ((not (rightSize (length l)), SIZE)
+      ∷ (not (wellFormed (recordsIn l) (recordOf l)), TABLE)
+      ∷ (not (leb 1 card && knownArity arity), ARGUMENT)
+      ∷ (leb (recordsIn l) (slotOfCard (recordsIn l) (recordOf l) card), ABSENT)
+      ∷ (clockWouldPass (recordsOf l) (slotOfCard (recordsIn l) (recordOf l) card), CLOCK)
+      ∷ [])
+      (deleteOf l card arity .refusal)
+      ((deleteOf l card arity .count ≡ 0) × (deleteOf l card arity .table ≡ l))
+  unfolding Delete.refusalOf
+  delete-refuses card arity =
+      record { first = delete-refusal l card arity; untouched = Deletes.refused-touches-nothing l card arity }
+
+  pub search-refuses :
+      (kind : ℕ) (signature : List ℕ) (radius : ℕ) (list : List ℕ)
+      → Refuses
+      ((not (rightSize (length l)), SIZE)
+      ∷ (not (wellFormed (recordsIn l) (recordOf l)), TABLE)
+      ∷ (not (knownKind kind && eqb (length signature) 32), ARGUMENT)
+      ∷ (otherKind (recordsIn l) (recordOf l) kind, KIND)
+      ∷ (ltb (length list) (usedIn (recordsIn l) (recordOf l)), SHORT)
+      ∷ [])
+      (searchOf l kind signature radius list .refusal)
+      ((searchOf l kind signature radius list .count ≡ 0)
+      × (searchOf l kind signature radius list .found ≡ 0)
+      × (searchOf l kind signature radius list .list ≡ list))
+  unfolding Search.refusalOf
+  search-refuses kind s r list =
+      record { first = refusal-is l kind s r list; untouched = search-untouched l kind s r list }
+
+  -- check writes nothing and reports no count
+  pub check-refuses :
+      checkOf l
+      ≡ firstOf
+      ((not (rightSize (length l)), SIZE)
+      ∷ (not (wellFormed (recordsIn l) (recordOf l)), TABLE)
+      ∷ (not (isSound (recordsIn l) (recordOf l)), LOOSE)
+      ∷ [])
+  unfolding checkOf
+  check-refuses = refl
+
+-- ---- demand 3: after every history of calls on a table of n records that starts cleared
+
+module _ {n : ℕ} (some : 1 ≤ n) (small : n ≤ mostRecords) (calls : List Call) (typed : AllTyped calls) where
+  -- the table and the stored cards then
+  abbrev now : State
+  now = run calls (cleared n)
+
+  -- the table is well formed and sound, and its used records are exactly the stored cards
+  pub history-holds : Holds n (run calls (cleared n))
+  history-holds = run-holds some small calls typed
+
+  -- every accepted search lists each stored card within the radius once and no other, and compares none twice
+  pub history-search :
+      (kind : ℕ) (signature : List ℕ) (radius : ℕ) (list : List ℕ)
+      → searchOf (now .table) kind signature radius list .refusal ≡ done
+      → Finds (run calls (cleared n)) kind signature radius list (searchOf (now .table) kind signature radius list)
+  history-search kind s r list = search-finds some small history-holds kind s r list
+
+  -- a smaller radius never costs more distances
+  pub history-narrower :
+      (kind : ℕ) (signature list : List ℕ) {r r′ : ℕ}
+      → r ≤ r′
+      → searchOf (now .table) kind signature r list .count ≤ searchOf (now .table) kind signature r′ list .count
+  history-narrower kind s list h = count-narrower (now .table) kind s list h
+
+  -- check answers 0
+  pub history-check : checkOf (now .table) ≡ done
+  history-check = check-done some small history-holds
+
+-- ---- each contract fixes its outcome: two that it allows are equal
+
+pub two-outcomes : {Outcome : Type 0} {one other fixed : Outcome} → one ≡ fixed → other ≡ fixed → one ≡ other
+two-outcomes e f = e ∙ sym f
+
+pub clear-fixed : (l : List ℕ) (o p : Cleared) → o ≡ clearOf l → p ≡ clearOf l → o ≡ p
+clear-fixed l o p = two-outcomes
+
+pub insert-fixed :
+    (l : List ℕ) (card kind arity : ℕ) (signature : List ℕ) (o p : Outcome)
+    → o ≡ insertOf l card kind arity signature
+    → p ≡ insertOf l card kind arity signature
+    → o ≡ p
+insert-fixed l card kind arity s o p = two-outcomes
+
+pub delete-fixed :
+    (l : List ℕ) (card arity : ℕ) (o p : Outcome) → o ≡ deleteOf l card arity → p ≡ deleteOf l card arity → o ≡ p
+delete-fixed l card arity o p = two-outcomes
+
+pub search-fixed :
+    (l : List ℕ) (kind : ℕ) (signature : List ℕ) (radius : ℕ) (list : List ℕ) (o p : Search.Outcome)
+    → o ≡ searchOf l kind signature radius list
+    → p ≡ searchOf l kind signature radius list
+    → o ≡ p
+search-fixed l kind s r list o p = two-outcomes
+
+pub check-fixed : (l : List ℕ) (o p : ℕ) → o ≡ checkOf l → p ≡ checkOf l → o ≡ p
+check-fixed l o p = two-outcomes

@@ -1,0 +1,1 @@
+// Theory alone: histories of calls, and what holds after each.
