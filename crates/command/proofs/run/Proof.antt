@@ -1,0 +1,212 @@
+-- `command::run` meets its contract: each operation's call has the outcome that the definition gives for its number.
+-- Assumes nothing.
+use Prim.Native.Nat.{ℕ}
+use mathlib.Core.Path.{_≡_, sym, ap, _∙_}
+use Rattle.insert.specs.Insert.{Outcome, insertOf}
+use Rattle.delete.specs.Delete.{deleteOf}
+use Rattle.search.specs.Search.{searchOf}
+use Rattle.search.specs.Search.{Outcome as Listing}
+use Rattle.soundness.specs.Soundness.{checkOf}
+use Rattle.command.specs.Command.{
+  Done,
+  kind,
+  arity,
+  signature,
+  ofChange,
+  ofListing,
+  command-insert,
+  command-delete,
+  command-search,
+  command-check,
+  command-other,
+}
+use borrow.Author.Needs.{needs}
+use Rattle.command.proofs.run.Statement.{statement}
+use Rattle.command.proofs.run.Tie as tie
+
+shared-slice-read-operation : tie.Need-shared-slice-read-operation
+shared-slice-read-operation c = search needs
+
+shared-slice-read-kind : tie.Need-shared-slice-read-kind
+shared-slice-read-kind c = search needs
+
+shared-slice-read-arity : tie.Need-shared-slice-read-arity
+shared-slice-read-arity c = search needs
+
+get-u32-requires : tie.Need-get-u32-requires
+get-u32-requires c κs = search needs
+
+get-u32-requires-2 : tie.Need-get-u32-requires-2
+get-u32-requires-2 c κs = search needs
+
+sub-insert : tie.Need-sub-insert
+sub-insert c = search needs
+
+part-insert-start : tie.Need-part-insert-start
+part-insert-start c = search needs
+
+part-insert-end : tie.Need-part-insert-end
+part-insert-end c = search needs
+
+insert-requires : tie.Need-insert-requires
+insert-requires c κs = search needs
+
+same-length : tie.Need-same-length
+same-length c = search needs
+
+returns : tie.Need-returns
+returns c =
+    let r = c .before .before .before .before .before .before in
+    let a = r .before .before .before .before .before .before .before .before .args in
+    let q = a .command .now in
+    let l = a .table .now in
+    ap
+    (λ (o : Outcome). ofChange o (a .list .now))
+    (c .before .before .insert .ensures
+    ∙ ap (λ (k : ℕ). insertOf l k (kind q) (arity q) (signature q)) (r .before .get-u32 .ensures))
+    ∙ sym (command-insert q l (a .list .now) (c .before .before .before .before .before .if1 .taken))
+
+delete-requires : tie.Need-delete-requires
+delete-requires c κs = search needs
+
+same-length-2 : tie.Need-same-length-2
+same-length-2 c = search needs
+
+returns-2 : tie.Need-returns-2
+returns-2 c =
+    let r = c .before .before .before .before .before .before in
+    let a = r .before .before .before .before .before .before .before .before .args in
+    let q = a .command .now in
+    let l = a .table .now in
+    ap
+    (λ (o : Outcome). ofChange o (a .list .now))
+    (c .before .before .delete .ensures ∙ ap (λ (k : ℕ). deleteOf l k (arity q)) (r .before .get-u32 .ensures))
+    ∙ sym (command-delete q l (a .list .now) (c .before .before .before .before .if2 .taken))
+
+sub-search : tie.Need-sub-search
+sub-search c = search needs
+
+part-search-start : tie.Need-part-search-start
+part-search-start c = search needs
+
+part-search-end : tie.Need-part-search-end
+part-search-end c = search needs
+
+search-requires : tie.Need-search-requires
+search-requires c κs = search needs
+
+same-length-3 : tie.Need-same-length-3
+same-length-3 c = search needs
+
+same-length-4 : tie.Need-same-length-4
+same-length-4 c = search needs
+
+returns-3 : tie.Need-returns-3
+returns-3 c =
+    let r = c .before .before .before .before .before .before .before .before .before in
+    let a = r .before .before .before .before .before .before .before .before .args in
+    let q = a .command .now in
+    let l = a .table .now in
+    ap
+    (λ (o : Listing). ofListing o l)
+    (c .before .before .search .ensures
+    ∙ ap (λ (x : ℕ). searchOf l (kind q) (signature q) x (a .list .now)) (r .get-u322 .ensures))
+    ∙ sym (command-search q l (a .list .now) (c .before .before .before .before .before .before .if3 .taken))
+
+check-requires : tie.Need-check-requires
+check-requires c κs = search needs
+
+no-count-requires : tie.Need-no-count-requires
+no-count-requires c κs = search needs
+
+same-length-5 : tie.Need-same-length-5
+same-length-5 c = search needs
+
+returns-4 : tie.Need-returns-4
+returns-4 c =
+    let r = c .before .before .before .before .before .before .before in
+    let a = r .before .before .before .before .before .before .before .before .args in
+    let q = a .command .now in
+    let l = a .table .now in
+    let e = c .no-count .ensures in
+    let outcome : _≡_ {A = Done}
+    (record {
+      refusal = c .no-count .result .refusal;
+      count = c .no-count .result .count;
+      found = c .no-count .result .found;
+      table = l;
+      list = a .list .now;
+    })
+    (record { refusal = checkOf l; count = 0; found = 0; table = l; list = a .list .now }) =
+    λ i.
+    record {
+      refusal = (e .0 ∙ c .before .check .ensures) i;
+      count = e .1 i;
+      found = e .2 i;
+      table = l;
+      list = a .list .now;
+    } in
+    outcome ∙ sym (command-check q l (a .list .now) (c .before .before .before .if4 .taken))
+
+no-count-requires-2 : tie.Need-no-count-requires-2
+no-count-requires-2 c κs = search needs
+
+returns-5 : tie.Need-returns-5
+returns-5 c =
+    let r = c .before .before .before .before .before in
+    let a = r .before .before .before .before .before .before .before .before .args in
+    let q = a .command .now in
+    let l = a .table .now in
+    let e = c .no-count2 .ensures in
+    let outcome : _≡_ {A = Done}
+    (record {
+      refusal = c .no-count2 .result .refusal;
+      count = c .no-count2 .result .count;
+      found = c .no-count2 .result .found;
+      table = l;
+      list = a .list .now;
+    })
+    (record { refusal = 3; count = 0; found = 0; table = l; list = a .list .now }) =
+    λ i. record { refusal = e .0 i; count = e .1 i; found = e .2 i; table = l; list = a .list .now } in
+    outcome
+    ∙ sym
+    (command-other
+    q
+    l
+    (a .list .now)
+    (c .before .before .before .before .if1 .left)
+    (c .before .before .before .if2 .left)
+    (c .before .before .if3 .left)
+    (c .before .if4 .left))
+
+pub run-spec : {M : Type 1} → statement M
+run-spec =
+    tie.close
+    (tie.spec
+    shared-slice-read-operation
+    shared-slice-read-kind
+    shared-slice-read-arity
+    get-u32-requires
+    get-u32-requires-2
+    sub-insert
+    part-insert-start
+    part-insert-end
+    insert-requires
+    same-length
+    returns
+    delete-requires
+    same-length-2
+    returns-2
+    sub-search
+    part-search-start
+    part-search-end
+    search-requires
+    same-length-3
+    same-length-4
+    returns-3
+    check-requires
+    no-count-requires
+    same-length-5
+    returns-4
+    no-count-requires-2
+    returns-5)

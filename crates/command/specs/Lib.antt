@@ -1,0 +1,2 @@
+-- The bench program's commands.
+pub mod Command

@@ -1,0 +1,70 @@
+// One command of the bench program, run on its table and its list.
+ghost use mathlib.Core.Path.{_≡_};
+ghost use lib.ListN.{length};
+ghost use Rattle.command.specs.Command.{Done, commandOf};
+
+// What a line of the program reports.
+pub struct Report {
+    pub refusal: u8,
+    pub count: u32,
+    pub found: u32,
+}
+
+fn no_count(refusal: u8) -> Report
+    ensures { λ r. ⌜ (r .refusal ≡ refusal) × (r .count ≡ 0) × (r .found ≡ 0) ⌝ }
+{
+    Report {
+        refusal: refusal,
+        count: 0,
+        found: 0,
+    }
+}
+
+// Runs the command of 48 bytes. Fields that its operation does not need are ignored.
+pub fn run(command: &[u8], table: &mut [u8], list: &mut [u32]) -> Report
+    requires { ⌜ length (now command) ≡ 48 ⌝ }
+    ensures { λ r.
+        ⌜ _≡_ {A = Done}
+        (record {
+          refusal = r .refusal;
+          count = r .count;
+          found = r .found;
+          table = now (table .exit);
+          list = now (list .exit);
+        })
+        (commandOf (now (command .entry)) (now (table .entry)) (now (list .entry))) ⌝ }
+{
+    let operation = command[0];
+    let kind = command[1];
+    let arity = command[2];
+    let card = number::get_u32(command, 4);
+    let radius = number::get_u32(command, 8);
+    if operation == 1 {
+        let r = insert::insert(table, card, kind, arity, &command[16..48]);
+        return Report {
+            refusal: r.refusal,
+            count: r.count,
+            found: 0,
+        };
+    }
+    if operation == 2 {
+        let r = delete::delete(table, card, arity);
+        return Report {
+            refusal: r.refusal,
+            count: r.count,
+            found: 0,
+        };
+    }
+    if operation == 3 {
+        let r = search::search(table, kind, &command[16..48], radius, list);
+        return Report {
+            refusal: r.refusal,
+            count: r.count,
+            found: r.found,
+        };
+    }
+    if operation == 4 {
+        return no_count(soundness::check(table));
+    }
+    no_count(3)
+}

@@ -1,0 +1,75 @@
+// The library's doors: the five calls as C functions over lent bytes and numbers. include/plotvuga.h says what a C caller
+// needs to know. Each returns the paper's refusal number, 0 if it was done; counts go to where the caller points.
+ghost use mathlib.Core.Path.{_≡_};
+ghost use Rattle.table.specs.Clear.{Cleared, clearOf};
+ghost use Rattle.insert.specs.Insert.{Outcome, insertOf};
+ghost use Rattle.delete.specs.Delete.{deleteOf};
+ghost use Rattle.search.specs.Search.{searchOf};
+ghost use Rattle.search.specs.Search.{Outcome as Listing};
+ghost use Rattle.soundness.specs.Soundness.{checkOf};
+
+#[no_mangle]
+pub extern "C" fn plotvuga_clear(table: &mut [u8]) -> u32
+    ensures { λ r. ⌜ _≡_ {A = Cleared} (record { refusal = r; table = now (table .exit) }) (clearOf (now (table .entry))) ⌝ }
+{
+    table::clear(table) as u32
+}
+
+#[no_mangle]
+pub extern "C" fn plotvuga_insert(
+    table: &mut [u8],
+    card: u32,
+    kind: u8,
+    arity: u8,
+    signature: &[u8],
+    count: &mut u32,
+) -> u32
+    ensures { λ r.
+        ⌜ _≡_ {A = Outcome}
+        (record { refusal = r; count = now (count .exit); table = now (table .exit) })
+        (insertOf (now (table .entry)) card kind arity (now (signature .entry))) ⌝ }
+{
+    let r = insert::insert(table, card, kind, arity, signature);
+    *count = r.count;
+    r.refusal as u32
+}
+
+#[no_mangle]
+pub extern "C" fn plotvuga_delete(table: &mut [u8], card: u32, arity: u8, count: &mut u32) -> u32
+    ensures { λ r.
+        ⌜ _≡_ {A = Outcome}
+        (record { refusal = r; count = now (count .exit); table = now (table .exit) })
+        (deleteOf (now (table .entry)) card arity) ⌝ }
+{
+    let r = delete::delete(table, card, arity);
+    *count = r.count;
+    r.refusal as u32
+}
+
+#[no_mangle]
+pub extern "C" fn plotvuga_search(
+    table: &[u8],
+    kind: u8,
+    signature: &[u8],
+    radius: u32,
+    list: &mut [u32],
+    count: &mut u32,
+    found: &mut u32,
+) -> u32
+    ensures { λ r.
+        ⌜ _≡_ {A = Listing}
+        (record { refusal = r; count = now (count .exit); found = now (found .exit); list = now (list .exit) })
+        (searchOf (now (table .entry)) kind (now (signature .entry)) radius (now (list .entry))) ⌝ }
+{
+    let r = search::search(table, kind, signature, radius, list);
+    *count = r.count;
+    *found = r.found;
+    r.refusal as u32
+}
+
+#[no_mangle]
+pub extern "C" fn plotvuga_check(table: &[u8]) -> u32
+    ensures { λ r. ⌜ r ≡ checkOf (now (table .entry)) ⌝ }
+{
+    soundness::check(table) as u32
+}
