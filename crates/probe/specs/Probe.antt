@@ -1,0 +1,36 @@
+-- What each probe answers, for every input. A probe that cannot be answered gives `noAnswer`.
+use Prim.Native.Nat.{ℕ}
+use mathlib.Core.Bool.{Bool, _&&_}
+use mathlib.Core.List.{List}
+use lib.Dec.{eqb, leb}
+use lib.ListN.{length}
+use Rattle.places.specs.Choice.{pick}
+use Rattle.distance.specs.Signature.{readingsAt}
+use Rattle.distance.specs.Kind.{apart}
+use Rattle.table.specs.Record.{Record, recordOf}
+use Rattle.table.specs.Table.{rightSize, recordsIn}
+use Rattle.judge.specs.WellFormed.{wellFormed}
+use Rattle.survey.specs.Survey.{usedIn, slotOfCard, lowestFree, rootOf, kindOf, largestTimestamp}
+
+abbrev pub noAnswer : ℕ
+noAnswer = 4294967295
+
+-- the distance of two signatures of 32 bytes, of kind 1 or 2
+unfoldable pub distanceProbe : ℕ → List ℕ → List ℕ → ℕ
+distanceProbe kind a b =
+    pick
+    ((leb 1 kind && leb kind 2) && (eqb (length a) 32 && eqb (length b) 32))
+    (apart kind (readingsAt a 0) (readingsAt b 0))
+    noAnswer
+
+-- 0 if the table is well formed, 1 if its size is wrong, and 2 if it is malformed
+unfoldable pub judgeProbe : List ℕ → ℕ
+judgeProbe l = pick (rightSize (length l)) (pick (wellFormed (recordsIn l) (recordOf l)) 0 2) 1
+
+-- a question that is asked of well-formed tables alone
+unfoldable pub asked : List ℕ → (ℕ → (ℕ → Record) → ℕ) → ℕ
+asked l question = pick (eqb (judgeProbe l) 0) (question (recordsIn l) (recordOf l)) noAnswer
+
+-- card 0 is stored nowhere
+unfoldable pub slotQuestion : ℕ → ℕ → (ℕ → Record) → ℕ
+slotQuestion card n R = pick (eqb card 0) n (slotOfCard n R card)

@@ -1,0 +1,116 @@
+//! The library's five functions behind one trait, so that a wrong library can be put in its place: as they are, and
+//! through the wrapper's typed calls.
+
+use plotvuga::{library, Kind, Refusal, Signature};
+
+/// The five functions: each returns the refusal number and sets its counts.
+pub trait Doors {
+    fn clear(&mut self, table: &mut [u8]) -> u32;
+    fn insert(&mut self, table: &mut [u8], card: u32, kind: u8, arity: u8, signature: &[u8], count: &mut u32) -> u32;
+    fn delete(&mut self, table: &mut [u8], card: u32, arity: u8, count: &mut u32) -> u32;
+    #[allow(clippy::too_many_arguments)]
+    fn search(
+        &mut self,
+        table: &[u8],
+        kind: u8,
+        signature: &[u8],
+        radius: u32,
+        list: &mut [u32],
+        count: &mut u32,
+        found: &mut u32,
+    ) -> u32;
+    fn check(&mut self, table: &[u8]) -> u32;
+}
+
+/// The linked library.
+#[derive(Clone, Copy, Debug, Default)]
+pub struct Linked;
+
+impl Doors for Linked {
+    fn clear(&mut self, table: &mut [u8]) -> u32 {
+        library::clear(table)
+    }
+
+    fn insert(&mut self, table: &mut [u8], card: u32, kind: u8, arity: u8, signature: &[u8], count: &mut u32) -> u32 {
+        library::insert(table, card, kind, arity, signature, count)
+    }
+
+    fn delete(&mut self, table: &mut [u8], card: u32, arity: u8, count: &mut u32) -> u32 {
+        library::delete(table, card, arity, count)
+    }
+
+    fn search(
+        &mut self,
+        table: &[u8],
+        kind: u8,
+        signature: &[u8],
+        radius: u32,
+        list: &mut [u32],
+        count: &mut u32,
+        found: &mut u32,
+    ) -> u32 {
+        library::search(table, kind, signature, radius, list, count, found)
+    }
+
+    fn check(&mut self, table: &[u8]) -> u32 {
+        library::check(table)
+    }
+}
+
+/// The linked library through the wrapper's typed calls, as far as types can say the arguments.
+#[derive(Clone, Copy, Debug, Default)]
+pub struct Typed;
+
+/// A kind and bytes as a signature, if they are one.
+fn typed(kind: u8, bytes: &[u8]) -> Option<Signature> {
+    let kind = [Kind::Readings, Kind::Faults].into_iter().find(|known| known.number() == kind)?;
+    Some(Signature::from_bytes(kind, bytes.try_into().ok()?))
+}
+
+fn number<T>(result: Result<T, Refusal>) -> u32 {
+    result.map_or_else(Refusal::number, |_| 0)
+}
+
+impl Doors for Typed {
+    fn clear(&mut self, table: &mut [u8]) -> u32 {
+        number(plotvuga::clear(table))
+    }
+
+    fn insert(&mut self, table: &mut [u8], card: u32, kind: u8, arity: u8, signature: &[u8], count: &mut u32) -> u32 {
+        let Some(signature) = typed(kind, signature) else {
+            return Linked.insert(table, card, kind, arity, signature, count);
+        };
+        let inserted = plotvuga::insert(table, card, &signature, arity);
+        *count = inserted.map_or(0, |inserted| inserted.distances);
+        number(inserted)
+    }
+
+    fn delete(&mut self, table: &mut [u8], card: u32, arity: u8, count: &mut u32) -> u32 {
+        let deleted = plotvuga::delete(table, card, arity);
+        *count = deleted.map_or(0, |deleted| deleted.distances);
+        number(deleted)
+    }
+
+    fn search(
+        &mut self,
+        table: &[u8],
+        kind: u8,
+        signature: &[u8],
+        radius: u32,
+        list: &mut [u32],
+        count: &mut u32,
+        found: &mut u32,
+    ) -> u32 {
+        let Some(signature) = typed(kind, signature) else {
+            return Linked.search(table, kind, signature, radius, list, count, found);
+        };
+        let listed = plotvuga::search(table, &signature, radius, list);
+        *count = listed.map_or(0, |listed| listed.distances);
+        *found = listed.map_or(0, |listed| listed.cards.len() as u32);
+        number(listed)
+    }
+
+    fn check(&mut self, table: &[u8]) -> u32 {
+        number(plotvuga::check(table))
+    }
+}

@@ -1,0 +1,8 @@
+//! The proved library against the independent model: the paper's edges by name, and many random histories. Everything
+//! lent to the library stands between guard bytes, and the counts are lent full of ones.
+
+pub mod doors;
+pub mod edges;
+pub mod groups;
+pub mod guarded;
+pub mod starts;

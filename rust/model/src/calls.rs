@@ -1,0 +1,122 @@
+//! The five calls: refusals in the paper's order, then the work on a tree of the table, then the table's bytes again.
+
+use crate::distance::{Signature, FAULT_BITS, READINGS};
+use crate::index::{Answer, Index};
+use crate::judge::{judge, size_is_right, Verdict};
+use crate::refusal::{ABSENT, ARGUMENT, CLOCK, DONE, FULL, KIND, LOOSE, SHORT, SIZE, TABLE, TWICE};
+use crate::soundness::sound;
+use crate::tree::Tree;
+
+/// The model as an index; it keeps nothing between calls.
+#[derive(Clone, Copy, Debug, Default)]
+pub struct Model;
+
+impl Model {
+    /// The cards of a well-formed table.
+    pub fn cards(table: &[u8]) -> Vec<u32> {
+        Tree::of(table).nodes().iter().map(|node| node.card).collect()
+    }
+}
+
+fn refused(refusal: u32) -> Answer {
+    Answer { refusal, count: 0, found: 0 }
+}
+
+/// The tree of the table, or the refusal that every call but clear begins with.
+fn admit(table: &[u8]) -> Result<Tree, u32> {
+    match judge(table) {
+        Verdict::Size => Err(SIZE),
+        Verdict::Table(..) => Err(TABLE),
+        Verdict::WellFormed => Ok(Tree::of(table)),
+    }
+}
+
+/// Refuses unless the condition holds.
+fn demand(holds: bool, refusal: u32) -> Result<(), u32> {
+    if holds {
+        Ok(())
+    } else {
+        Err(refusal)
+    }
+}
+
+fn arity_is_right(arity: u8) -> bool {
+    (1..=8).contains(&arity)
+}
+
+fn kind_is_right(kind: u8) -> bool {
+    [READINGS, FAULT_BITS].contains(&kind)
+}
+
+fn whole(signature: &[u8]) -> Option<Signature> {
+    signature.try_into().ok()
+}
+
+fn insert(table: &mut [u8], card: u32, kind: u8, signature: &[u8], arity: u8) -> Result<Answer, u32> {
+    let mut tree = admit(table)?;
+    demand(card != 0 && arity_is_right(arity) && kind_is_right(kind), ARGUMENT)?;
+    let signature = whole(signature).ok_or(ARGUMENT)?;
+    demand(tree.root.is_none() || tree.kind == kind, KIND)?;
+    demand(!tree.holds(card), TWICE)?;
+    let slot = tree.lowest_free().ok_or(FULL)?;
+    demand(tree.largest_timestamp() < u32::MAX, CLOCK)?;
+    tree.kind = kind;
+    let count = tree.insert(slot, card, signature, usize::from(arity));
+    table.copy_from_slice(&tree.bytes());
+    Ok(Answer { refusal: DONE, count, found: 0 })
+}
+
+fn delete(table: &mut [u8], card: u32, arity: u8) -> Result<Answer, u32> {
+    let mut tree = admit(table)?;
+    demand(card != 0 && arity_is_right(arity), ARGUMENT)?;
+    demand(tree.holds(card), ABSENT)?;
+    let mut staying = tree.clone();
+    let m = staying.cut(card).len();
+    demand(u64::from(staying.largest_timestamp()) + m as u64 <= u64::from(u32::MAX), CLOCK)?;
+    let count = tree.delete(card, usize::from(arity));
+    table.copy_from_slice(&tree.bytes());
+    Ok(Answer { refusal: DONE, count, found: 0 })
+}
+
+fn search(table: &[u8], kind: u8, signature: &[u8], radius: u32, list: &mut [u32]) -> Result<Answer, u32> {
+    let tree = admit(table)?;
+    demand(kind_is_right(kind), ARGUMENT)?;
+    let query = whole(signature).ok_or(ARGUMENT)?;
+    demand(tree.root.is_none() || tree.kind == kind, KIND)?;
+    demand(list.len() >= tree.nodes().len(), SHORT)?;
+    let walk = tree.search(&query, radius);
+    list[..walk.listed.len()].copy_from_slice(&walk.listed);
+    Ok(Answer { refusal: DONE, count: tree.compared(&walk), found: walk.listed.len() as u32 })
+}
+
+fn check(table: &[u8]) -> Result<Answer, u32> {
+    let tree = admit(table)?;
+    demand(sound(&tree), LOOSE)?;
+    Ok(refused(DONE))
+}
+
+impl Index for Model {
+    fn clear(&mut self, table: &mut [u8]) -> Answer {
+        if !size_is_right(table.len()) {
+            return refused(SIZE);
+        }
+        table.fill(0);
+        refused(DONE)
+    }
+
+    fn insert(&mut self, table: &mut [u8], card: u32, kind: u8, signature: &[u8], arity: u8) -> Answer {
+        insert(table, card, kind, signature, arity).unwrap_or_else(refused)
+    }
+
+    fn delete(&mut self, table: &mut [u8], card: u32, arity: u8) -> Answer {
+        delete(table, card, arity).unwrap_or_else(refused)
+    }
+
+    fn search(&mut self, table: &[u8], kind: u8, signature: &[u8], radius: u32, list: &mut [u32]) -> Answer {
+        search(table, kind, signature, radius, list).unwrap_or_else(refused)
+    }
+
+    fn check(&mut self, table: &[u8]) -> Answer {
+        check(table).unwrap_or_else(refused)
+    }
+}

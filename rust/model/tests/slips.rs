@@ -1,0 +1,301 @@
+//! Wrong indexes that look right, each with one slip: the comparison must catch every one of them and shorten the
+//! history that shows it. An index without a slip must pass, so the slips alone are what is caught.
+
+use model::calls::Model;
+use model::compare::compare;
+use model::distance::Signature;
+use model::history::{history, Manner};
+use model::index::{Answer, Index};
+use model::random::Random;
+use model::refusal::{ABSENT, DONE, FULL, TWICE};
+use model::tree::{Node, Tree};
+
+#[derive(Clone, Copy, Debug, PartialEq, Eq)]
+enum Slip {
+    None,
+    // The paper's errors that look right, and 000's bound that drops t.
+    ParentAmongCandidates,
+    YoungerInSmallest,
+    FoundByWalking,
+    OldTimestamps,
+    BoundDropped,
+    // Slips in search.
+    NoBound,
+    BoundNotSmallest,
+    OneRadius,
+    SumsWrap,
+    WalkReversed,
+    CountListed,
+    LaterEntriesZeroed,
+    // Slips in insert and delete.
+    TieToYoungest,
+    NotStrictly,
+    ArityIgnored,
+    RadiusKept,
+    RadiusShrinks,
+    LowestSlotAgain,
+    NewestFirst,
+    FullBeforeTwice,
+    WritesWhenRefused,
+    // Shams that the contract must shut out.
+    RefusesAll,
+    StoresFirstOnly,
+}
+
+const ALL: [Slip; 23] = [
+    Slip::ParentAmongCandidates,
+    Slip::YoungerInSmallest,
+    Slip::FoundByWalking,
+    Slip::OldTimestamps,
+    Slip::BoundDropped,
+    Slip::NoBound,
+    Slip::BoundNotSmallest,
+    Slip::OneRadius,
+    Slip::SumsWrap,
+    Slip::WalkReversed,
+    Slip::CountListed,
+    Slip::LaterEntriesZeroed,
+    Slip::TieToYoungest,
+    Slip::NotStrictly,
+    Slip::ArityIgnored,
+    Slip::RadiusKept,
+    Slip::RadiusShrinks,
+    Slip::LowestSlotAgain,
+    Slip::NewestFirst,
+    Slip::FullBeforeTwice,
+    Slip::WritesWhenRefused,
+    Slip::RefusesAll,
+    Slip::StoresFirstOnly,
+];
+
+/// An index with one slip. Whatever the slip does not touch is left to the model.
+struct Slipped(Slip);
+
+impl Slipped {
+    fn has(&self, slip: Slip) -> bool {
+        self.0 == slip
+    }
+
+    // ---- insert ----
+
+    fn put(&self, tree: &mut Tree, x: Node, arity: usize) -> u32 {
+        let kind = tree.kind;
+        match &mut tree.root {
+            None => {
+                tree.root = Some(x);
+                0
+            }
+            Some(root) => 1 + self.take_in(root, x, kind, arity),
+        }
+    }
+
+    fn take_in(&self, a: &mut Node, x: Node, kind: u8, arity: usize) -> u32 {
+        let count = a.children.len() as u32;
+        let from_a = a.far(kind, &x.signature);
+        if !self.has(Slip::RadiusKept) {
+            a.radius = a.radius.max(from_a as u32);
+        }
+        let mut nearest: Option<(u64, usize)> = None;
+        for (place, child) in a.children.iter().enumerate() {
+            let from_c = child.far(kind, &x.signature);
+            let better = |best: u64| from_c < best || (self.has(Slip::TieToYoungest) && from_c == best);
+            if nearest.is_none_or(|(best, _)| better(best)) {
+                nearest = Some((from_c, place));
+            }
+        }
+        let room = a.children.len() < if self.has(Slip::ArityIgnored) { 8 } else { arity };
+        match nearest {
+            Some((from_c, _)) if self.has(Slip::NotStrictly) && from_a == from_c && room => a.children.push(x),
+            Some((from_c, place)) if from_a >= from_c || !room => {
+                return count + self.take_in(&mut a.children[place], x, kind, arity);
+            }
+            _ => a.children.push(x),
+        }
+        count
+    }
+
+    // ---- delete ----
+
+    /// Whether the card is come upon by walking as if to insert its signature.
+    fn walked_upon(tree: &Tree, card: u32) -> bool {
+        let signature = tree.nodes().iter().find(|node| node.card == card).unwrap().signature;
+        let mut a = tree.root.as_ref();
+        while let Some(node) = a {
+            if node.card == card {
+                return true;
+            }
+            a = node.children.iter().min_by_key(|child| child.far(tree.kind, &signature));
+        }
+        false
+    }
+
+    fn delete_done(&self, tree: &mut Tree, card: u32, arity: usize) -> u32 {
+        let mut below = tree.cut(card);
+        if self.has(Slip::NewestFirst) {
+            below.reverse();
+        }
+        if self.has(Slip::RadiusShrinks) {
+            if let Some(root) = &mut tree.root {
+                let far = root.children.iter().map(|child| root.far(tree.kind, &child.signature)).max();
+                root.radius = root.radius.min(far.unwrap_or(0) as u32);
+            }
+        }
+        let mut sum = 0;
+        for x in below {
+            let slot = if self.has(Slip::LowestSlotAgain) { tree.lowest_free().unwrap() } else { x.slot };
+            let fresh = tree.largest_timestamp() + 1;
+            let timestamp = if self.has(Slip::OldTimestamps) { x.timestamp } else { fresh };
+            sum += self.put(tree, Node { slot, timestamp, radius: 0, children: vec![], ..x }, arity);
+        }
+        sum
+    }
+
+    // ---- search ----
+
+    #[allow(clippy::too_many_arguments)]
+    fn visit(&self, a: &Node, from_a: u64, t: u64, kind: u8, q: &Signature, r: u64, out: &mut (Vec<u32>, u32)) {
+        let mut reach = u64::from(a.radius) + r;
+        if self.has(Slip::SumsWrap) {
+            reach %= 1 << 32;
+        }
+        if u64::from(a.timestamp) >= t || from_a > reach {
+            return;
+        }
+        out.1 += a.children.len() as u32;
+        if from_a <= r {
+            out.0.push(a.card);
+        }
+        let twice = if self.has(Slip::OneRadius) { r } else { 2 * r };
+        let compared: Vec<u64> = a.children.iter().map(|child| child.far(kind, q)).collect();
+        let mut places: Vec<usize> = (0..compared.len()).collect();
+        if self.has(Slip::WalkReversed) {
+            places.reverse();
+        }
+        for place in places {
+            let judges = if self.has(Slip::YoungerInSmallest) { &compared[..] } else { &compared[..place] };
+            let parent = self.has(Slip::ParentAmongCandidates).then_some(from_a);
+            let smallest = judges.iter().copied().chain(parent).min();
+            if smallest.is_some_and(|smallest| compared[place] > smallest + twice) {
+                continue;
+            }
+            let nearer = (place + 1..compared.len()).filter(|c| compared[place] > compared[*c] + twice);
+            let mut younger = nearer.map(|c| u64::from(a.children[c].timestamp));
+            let bound = match self.0 {
+                Slip::NoBound => u64::MAX,
+                Slip::BoundDropped => younger.min().unwrap_or(u64::MAX),
+                Slip::BoundNotSmallest => younger.next_back().unwrap_or(u64::MAX).min(t),
+                _ => younger.min().unwrap_or(u64::MAX).min(t),
+            };
+            self.visit(&a.children[place], compared[place], bound, kind, q, r, out);
+        }
+    }
+}
+
+impl Index for Slipped {
+    fn clear(&mut self, table: &mut [u8]) -> Answer {
+        Model.clear(table)
+    }
+
+    fn insert(&mut self, table: &mut [u8], card: u32, kind: u8, signature: &[u8], arity: u8) -> Answer {
+        if self.has(Slip::RefusesAll) {
+            return Answer { refusal: FULL, count: 0, found: 0 };
+        }
+        let mut after = table.to_vec();
+        let mut answer = Model.insert(&mut after, card, kind, signature, arity);
+        if answer.refusal == TWICE && self.has(Slip::FullBeforeTwice) && Tree::of(table).lowest_free().is_none() {
+            answer.refusal = FULL;
+        }
+        if answer.refusal != DONE {
+            if answer.refusal == FULL && self.has(Slip::WritesWhenRefused) {
+                table[8] ^= 1;
+            }
+            return answer;
+        }
+        let mut tree = Tree::of(table);
+        if self.has(Slip::StoresFirstOnly) && tree.root.is_some() {
+            return answer;
+        }
+        tree.kind = kind;
+        let x = Node {
+            slot: tree.lowest_free().unwrap(),
+            card,
+            timestamp: tree.largest_timestamp() + 1,
+            radius: 0,
+            signature: signature.try_into().unwrap(),
+            children: vec![],
+        };
+        answer.count = self.put(&mut tree, x, usize::from(arity));
+        table.copy_from_slice(&tree.bytes());
+        answer
+    }
+
+    fn delete(&mut self, table: &mut [u8], card: u32, arity: u8) -> Answer {
+        let mut answer = Model.delete(&mut table.to_vec(), card, arity);
+        if answer.refusal != DONE {
+            return answer;
+        }
+        let mut tree = Tree::of(table);
+        if self.has(Slip::FoundByWalking) && !Slipped::walked_upon(&tree, card) {
+            return Answer { refusal: ABSENT, count: 0, found: 0 };
+        }
+        answer.count = self.delete_done(&mut tree, card, usize::from(arity));
+        table.copy_from_slice(&tree.bytes());
+        answer
+    }
+
+    fn search(&mut self, table: &[u8], kind: u8, signature: &[u8], radius: u32, list: &mut [u32]) -> Answer {
+        let mut answer = Model.search(table, kind, signature, radius, &mut list.to_vec());
+        if answer.refusal != DONE {
+            return answer;
+        }
+        let (tree, query) = (Tree::of(table), signature.try_into().unwrap());
+        let mut out = (Vec::new(), 0);
+        if let Some(root) = &tree.root {
+            out.1 = 1;
+            self.visit(root, root.far(kind, query), u64::MAX, kind, query, u64::from(radius), &mut out);
+        }
+        if self.has(Slip::LaterEntriesZeroed) {
+            list.fill(0);
+        }
+        list[..out.0.len()].copy_from_slice(&out.0);
+        answer.found = out.0.len() as u32;
+        answer.count = if self.has(Slip::CountListed) { answer.found } else { out.1 };
+        answer
+    }
+
+    fn check(&mut self, table: &[u8]) -> Answer {
+        Model.check(table)
+    }
+}
+
+#[test]
+fn without_a_slip_nothing_is_caught() {
+    let mut random = Random::new(11);
+    for round in 0..200 {
+        let manner = Manner::ALL[round % 3];
+        let history = history(&mut random, manner, 2 + round % 30, 120);
+        if let Err(failure) = compare(&mut Slipped(Slip::None), &mut Model, &history) {
+            panic!("{failure}");
+        }
+    }
+}
+
+#[test]
+fn every_slip_is_caught_and_its_history_shortened() {
+    for slip in ALL {
+        let mut random = Random::new(12);
+        let mut caught = None;
+        for round in 0..2000 {
+            let manner = Manner::ALL[round % 3];
+            let history = history(&mut random, manner, 2 + round % 30, 120);
+            if let Err(failure) = compare(&mut Slipped(slip), &mut Model, &history) {
+                caught = Some((round, failure));
+                break;
+            }
+        }
+        let (round, failure) = caught.unwrap_or_else(|| panic!("{slip:?} was never caught"));
+        let commands = failure.history.commands.len();
+        println!("{slip:?}: history {}, {commands} commands left: {}", round + 1, failure.difference.what);
+        assert!(commands <= 20, "{slip:?}:\n{failure}");
+    }
+}

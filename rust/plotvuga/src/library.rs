@@ -1,0 +1,64 @@
+//! The library's five functions as they are, over slices and numbers: each returns the refusal number, 0 for done, and
+//! sets its counts. The calls at the crate's top are these with types. All of the crate's `unsafe` is here.
+
+extern "C" {
+    fn plotvuga_clear(table: *mut u8, table_len: usize) -> u32;
+    fn plotvuga_insert(
+        table: *mut u8,
+        table_len: usize,
+        card: u32,
+        kind: u8,
+        arity: u8,
+        signature: *const u8,
+        signature_len: usize,
+        count: *mut u32,
+    ) -> u32;
+    fn plotvuga_delete(table: *mut u8, table_len: usize, card: u32, arity: u8, count: *mut u32) -> u32;
+    fn plotvuga_search(
+        table: *const u8,
+        table_len: usize,
+        kind: u8,
+        signature: *const u8,
+        signature_len: usize,
+        radius: u32,
+        list: *mut u32,
+        list_len: usize,
+        count: *mut u32,
+        found: *mut u32,
+    ) -> u32;
+    fn plotvuga_check(table: *const u8, table_len: usize) -> u32;
+}
+
+// SAFETY, for every call below: each pointer and its length come from one slice or reference, which is borrowed until
+// the call returns, is never null, and, where the function writes, is borrowed alone. The function reads and writes
+// those places only and keeps no pointer.
+
+pub fn clear(table: &mut [u8]) -> u32 {
+    unsafe { plotvuga_clear(table.as_mut_ptr(), table.len()) }
+}
+
+pub fn insert(table: &mut [u8], card: u32, kind: u8, arity: u8, signature: &[u8], count: &mut u32) -> u32 {
+    let (to, of) = (table.as_mut_ptr(), signature.as_ptr());
+    unsafe { plotvuga_insert(to, table.len(), card, kind, arity, of, signature.len(), count) }
+}
+
+pub fn delete(table: &mut [u8], card: u32, arity: u8, count: &mut u32) -> u32 {
+    unsafe { plotvuga_delete(table.as_mut_ptr(), table.len(), card, arity, count) }
+}
+
+pub fn search(
+    table: &[u8],
+    kind: u8,
+    signature: &[u8],
+    radius: u32,
+    list: &mut [u32],
+    count: &mut u32,
+    found: &mut u32,
+) -> u32 {
+    let (from, of, to) = (table.as_ptr(), signature.as_ptr(), list.as_mut_ptr());
+    unsafe { plotvuga_search(from, table.len(), kind, of, signature.len(), radius, to, list.len(), count, found) }
+}
+
+pub fn check(table: &[u8]) -> u32 {
+    unsafe { plotvuga_check(table.as_ptr(), table.len()) }
+}

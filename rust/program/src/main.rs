@@ -1,0 +1,110 @@
+//! Compares what the bench program prints with what the model prints: `program PATH [seed] [amount]`. Without a path it
+//! is the model's own bench program, standard input to standard output, so that the comparison can be tried on itself.
+
+mod commands;
+mod pipe;
+
+use commands::Writer;
+use model::calls::Model;
+use model::program::{self, COMMAND};
+use model::random::Random;
+use pipe::Pieces;
+use std::io::{Read, Write};
+use std::process::ExitCode;
+use std::time::Duration;
+
+const DEFAULT_SEED: u64 = 20_260_602;
+const DEFAULT_AMOUNT: usize = 40;
+
+/// The inputs that are always tried, by name.
+fn named(random: &mut Random) -> Vec<(String, Vec<u8>, Pieces)> {
+    let listing = commands::listing();
+    let mut list = vec![
+        ("nothing".to_string(), Vec::new(), Pieces::Whole),
+        ("the listing".to_string(), listing.clone(), Pieces::Whole),
+        ("the listing, one byte at a time".to_string(), listing.clone(), Pieces::Bytes),
+    ];
+    for left in 1..COMMAND {
+        let input = [&listing[..], &vec![1; left]].concat();
+        list.push((format!("the listing and {left} bytes more"), input, Pieces::Whole));
+    }
+    list.push(("47 bytes alone".to_string(), vec![4; 47], Pieces::Bytes));
+    let operations = (0..=255).flat_map(|operation| commands::noise(random, operation)).collect();
+    list.push(("every operation byte, with noise in every other field".to_string(), operations, Pieces::Whole));
+    list.push(("530 inserts: full at 512".to_string(), Writer::new(random).fill(random, 530), Pieces::Some));
+    list
+}
+
+fn compare(path: &str, seed: u64, amount: usize) -> (usize, usize) {
+    let mut random = Random::new(seed);
+    let mut inputs = named(&mut random);
+    for round in 0..amount {
+        let many = random.from_to(1, 400) as usize;
+        let mut input = Writer::new(&mut random).commands(&mut random, many);
+        input.truncate(input.len() - random.pick(&[0, 0, 0, 1, 47]));
+        inputs.push((format!("history {}", round + 1), input, random.pick(&[Pieces::Whole, Pieces::Some])));
+    }
+    let long = Writer::new(&mut random).commands(&mut random, 10_000);
+    inputs.push(("a history of 10,000 commands".to_string(), long, Pieces::Whole));
+
+    let (mut passed, mut failed, mut lines) = (0, 0, 0);
+    let mut last = Duration::ZERO;
+    for (name, input, pieces) in &inputs {
+        let right = program::run(&mut Model, input);
+        lines += right.lines().count();
+        let printed = pipe::run(path, input, *pieces).map(|(printed, time)| {
+            last = time;
+            printed
+        });
+        match printed {
+            Ok(printed) if printed == right => passed += 1,
+            Ok(printed) => {
+                failed += 1;
+                let number = printed.lines().zip(right.lines()).take_while(|(own, right)| own == right).count();
+                let line = |text: &str| text.lines().nth(number).unwrap_or("the end").to_string();
+                println!("FAILED: {name}: line {}: {:?} and not {:?}", number + 1, line(&printed), line(&right));
+            }
+            Err(why) => {
+                failed += 1;
+                println!("FAILED: {name}: {why}");
+            }
+        }
+    }
+    println!(
+        "{} inputs, {lines} lines compared; the last, 10,000 commands, took {} ms",
+        inputs.len(),
+        last.as_millis()
+    );
+    (passed, failed)
+}
+
+fn stand_in() -> std::io::Result<()> {
+    let mut input = Vec::new();
+    std::io::stdin().read_to_end(&mut input)?;
+    std::io::stdout().write_all(program::run(&mut Model, &input).as_bytes())
+}
+
+fn main() -> ExitCode {
+    let mut arguments = std::env::args().skip(1);
+    let Some(path) = arguments.next() else {
+        return if stand_in().is_ok() { ExitCode::SUCCESS } else { ExitCode::FAILURE };
+    };
+    let numbers: Result<Vec<u64>, _> = arguments.map(|number| number.parse()).collect();
+    let (seed, amount) = match numbers.as_deref() {
+        Ok([]) => (DEFAULT_SEED, DEFAULT_AMOUNT),
+        Ok([seed]) => (*seed, DEFAULT_AMOUNT),
+        Ok([seed, amount]) => (*seed, *amount as usize),
+        _ => {
+            eprintln!("usage: program PATH [seed] [amount]");
+            return ExitCode::from(2);
+        }
+    };
+    println!("seed {seed}, {amount} histories");
+    let (passed, failed) = compare(&path, seed, amount);
+    println!("{passed} passed, {failed} failed");
+    if failed == 0 {
+        ExitCode::SUCCESS
+    } else {
+        ExitCode::FAILURE
+    }
+}

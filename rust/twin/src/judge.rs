@@ -1,0 +1,114 @@
+//! Whether a table is well formed: one pass over the records, counting links, then cards and timestamps told apart.
+
+use crate::record::{
+    card, child_slots, count, kind, parent, records, timestamp, Record, CHILD_SLOTS, MOST_RECORDS, NO_SLOT, RECORD,
+};
+
+/// What a pass over a well-formed table tells besides.
+#[derive(Clone, Copy, Debug)]
+pub struct Survey {
+    pub used: usize,
+    /// The root's slot; 0 in a free table.
+    pub root: usize,
+    /// The kind of every used record; 0 in a free table.
+    pub kind: u8,
+    pub youngest: u32,
+}
+
+pub fn size_is_right(length: usize) -> bool {
+    length % RECORD == 0 && (1..=MOST_RECORDS).contains(&(length / RECORD))
+}
+
+/// The survey of a well-formed table, none of another. The length has been judged.
+///
+/// Every link within a count names a used record that names this one back and is younger, and siblings rise. So no
+/// record is linked twice, and with one root, as many links as used records less one leave no record out.
+pub fn judge(table: &[u8]) -> Option<Survey> {
+    let table = records(table);
+    let mut survey = Survey { used: 0, root: 0, kind: 0, youngest: 0 };
+    let (mut roots, mut links) = (0, 0);
+    let mut cards = [0; MOST_RECORDS];
+    let mut timestamps = [0; MOST_RECORDS];
+    for (slot, record) in table.iter().enumerate() {
+        if card(record) == 0 {
+            if record.iter().any(|byte| *byte != 0) {
+                return None;
+            }
+            continue;
+        }
+        if survey.used == 0 {
+            survey.kind = kind(record);
+        }
+        if !own_fields_are_right(record, survey.kind) || !links_are_right(table, slot, record) {
+            return None;
+        }
+        if parent(record) == NO_SLOT {
+            roots += 1;
+            survey.root = slot;
+        }
+        links += count(record);
+        cards[survey.used] = card(record);
+        timestamps[survey.used] = timestamp(record);
+        survey.youngest = survey.youngest.max(timestamp(record));
+        survey.used += 1;
+    }
+    let used = survey.used;
+    if used > 0 && (roots != 1 || links != used - 1) {
+        return None;
+    }
+    (all_distinct(&cards[..used]) && all_distinct(&timestamps[..used])).then_some(survey)
+}
+
+fn own_fields_are_right(record: &Record, first_kind: u8) -> bool {
+    let (own, count) = (kind(record), count(record));
+    if timestamp(record) == 0 || count > CHILD_SLOTS || !(1..=2).contains(&own) || own != first_kind {
+        return false;
+    }
+    // The slots past the count are all ones.
+    child_slots(record).checked_shr(16 * count as u32).unwrap_or(0)
+        == u128::MAX.checked_shr(16 * count as u32).unwrap_or(0)
+}
+
+fn links_are_right(table: &[Record], slot: usize, record: &Record) -> bool {
+    let mut slots = child_slots(record);
+    let mut before = timestamp(record);
+    for _ in 0..count(record) {
+        // A free record's timestamp is 0, so it is no younger one.
+        let Some(below) = table.get(usize::from(slots as u16)) else { return false };
+        let younger = timestamp(below);
+        if usize::from(parent(below)) != slot || younger <= before {
+            return false;
+        }
+        before = younger;
+        slots >>= 16;
+    }
+    true
+}
+
+/// Cells of the hash table: four times the most keys, so that chains stay short.
+const CELLS: usize = 4 * MOST_RECORDS;
+/// The cells that a key may look at before the keys are sorted instead, so that no choice of keys makes this slow.
+const PROBES: usize = 32;
+
+/// Whether the keys, none of them 0 and at most 1,024, are all different.
+pub fn all_distinct(keys: &[u32]) -> bool {
+    let mut cells = [0u32; CELLS];
+    for key in keys {
+        let first = (key.wrapping_mul(0x9e37_79b9) >> 20) as usize;
+        let free = (first..first + PROBES).find(|cell| [0, *key].contains(&cells[cell % CELLS]));
+        let Some(cell) = free else { return all_distinct_by_order(keys) };
+        if cells[cell % CELLS] != 0 {
+            return false;
+        }
+        cells[cell % CELLS] = *key;
+    }
+    true
+}
+
+fn all_distinct_by_order(keys: &[u32]) -> bool {
+    let mut sorted = [0; MOST_RECORDS];
+    let sorted = &mut sorted[..keys.len()];
+    sorted.copy_from_slice(keys);
+    sorted.sort_unstable();
+    sorted.windows(2).all(|pair| pair[0] != pair[1])
+}

@@ -1,0 +1,13 @@
+//! The library's twin: the same five calls, the same algorithm and the same validation, in place over the same bytes,
+//! in plain safe Rust and not proved. It is the yardstick of the benchmarks, so it is written to be fast.
+
+pub mod calls;
+pub mod check;
+pub mod judge;
+pub mod place;
+pub mod record;
+pub mod refusal;
+pub mod walk;
+
+pub use calls::{clear, delete, insert, search, Answer};
+pub use check::check;

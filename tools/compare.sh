@@ -1,0 +1,56 @@
+#!/usr/bin/env bash
+# Compares the proved code with the independent model in rust/: the model's own tests, then the library's parts through
+# their C functions, then the library whole from C and from Rust, then the bench program, each over a fixed, seeded set.
+# Longer runs with a seed of one's own: rust/README.md. What crates.txt does not list yet is told and left out.
+set -u
+cd "$(dirname "$0")/.."
+passed=0 failed=0
+export CARGO_NET_OFFLINE=true CARGO_TERM_COLOR=never
+export PLOTVUGA_LIB_DIR=$PWD/target/staticlib
+
+log=$(mktemp)
+trap 'rm -f "$log"' EXIT
+
+# Sums the counts that a run printed, in cargo's words or in ours; a run without any, or a bad end, is a failure.
+count() { # STATUS
+    local n m
+    n=$(sed -nE 's/^test result: .* ([0-9]+) passed; .*/\1/p; s/^([0-9]+) passed, [0-9]+ failed$/\1/p' "$log" | paste -sd+ | bc)
+    m=$(sed -nE 's/^test result: .* ([0-9]+) failed; .*/\1/p; s/^[0-9]+ passed, ([0-9]+) failed$/\1/p' "$log" | paste -sd+ | bc)
+    [ "${n:-0}" -gt 0 ] || [ "${m:-0}" -gt 0 ] || m=1
+    [ "$1" -eq 0 ] || [ "${m:-0}" -gt 0 ] || m=1
+    passed=$((passed + ${n:-0})) failed=$((failed + ${m:-0}))
+}
+
+run() { # COMMAND..
+    echo "+ $*"
+    "$@" 2>&1 | tee "$log"
+    count "${PIPESTATUS[0]}"
+}
+
+# Whether a crate is there to be compared, and its library or program built.
+built() { # CRATE COMMAND..
+    grep -q "^$1:" crates.txt || { echo "$1 is not listed in crates.txt: not compared"; return 1; }
+    shift
+    "$@" >"$log" 2>&1 || { cat "$log"; failed=$((failed + 1)); return 1; }
+}
+
+in_rust() { (cd rust && "$@"); }
+
+run in_rust cargo test --release -q
+run in_rust cargo test --release -q -p probe --features stub
+if built probe rt staticlib probe; then
+    run in_rust cargo run --release -q -p probe --bin compare
+fi
+if built plotvuga rt staticlib plotvuga; then
+    run bash tools/c_example.sh
+    run bash tools/stack.sh
+    run in_rust cargo test --release -q -p plotvuga
+    run in_rust cargo test --release -q -p histories
+    run in_rust cargo run --release -q -p histories
+fi
+if built bench rt check bench; then
+    run in_rust cargo run --release -q -p program -- "$PWD/target/bin/bench"
+    run bash tools/text_front.sh
+fi
+echo "$passed passed, $failed failed"
+[ "$failed" -eq 0 ]
