@@ -74,14 +74,17 @@ pub word-lt : (a : List ℕ) (k : ℕ) → Fit a → wordOf a k < 2 ^ 64
 unfolding wordOf
 word-lt a k h = omega (arith, h (4 * k), h (4 * k + 1), h (4 * k + 2), h (4 * k + 3))
 
--- the mask of the readings in 32 bytes is the four 64-bit numbers in them
-pub word-at : (l : List ℕ) (at k : ℕ) → k < 4 → wordOf (readingsAt l at) k ≡ numberAt 8 l (at + 8 * k)
+-- numbers of two bytes each, one after another from `at` on, make the words that stand there
+pub word-of-pairs :
+    (a l : List ℕ) (at k : ℕ)
+    → ((i : ℕ) → i < 4 * k + 4 → getD a i 0 ≡ numberAt 2 l (at + 2 * i))
+    → wordOf a k ≡ numberAt 8 l (at + 8 * k)
 unfolding wordOf numberAt
-word-at l at k h =
-    let e0 = reading-at l at (4 * k) (omega arith) in
-    let e1 = reading-at l at (4 * k + 1) (omega arith) in
-    let e2 = reading-at l at (4 * k + 2) (omega arith) in
-    let e3 = reading-at l at (4 * k + 3) (omega arith) in
+word-of-pairs a l at k pair =
+    let e0 = pair (4 * k) (omega arith) in
+    let e1 = pair (4 * k + 1) (omega arith) in
+    let e2 = pair (4 * k + 2) (omega arith) in
+    let e3 = pair (4 * k + 3) (omega arith) in
     let byte : (i j : ℕ) → i ≡ j → getD l i 0 ≡ getD l j 0 = λ i j e. ap (λ (x : ℕ). getD l x 0) e in
     omega (
       arith,
@@ -98,3 +101,7 @@ word-at l at k h =
       byte (at + 2 * (4 * k + 3)) (at + 8 * k + 6) (omega arith),
       byte (at + 2 * (4 * k + 3) + 1) (at + 8 * k + 7) (omega arith),
     )
+
+-- the mask of the readings in 32 bytes is the four 64-bit numbers in them
+pub word-at : (l : List ℕ) (at k : ℕ) → k < 4 → wordOf (readingsAt l at) k ≡ numberAt 8 l (at + 8 * k)
+word-at l at k h = word-of-pairs (readingsAt l at) l at k (λ i b. reading-at l at i (omega arith))

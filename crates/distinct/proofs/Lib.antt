@@ -1,3 +1,2 @@
--- Why seating the keys one after another finds two that are equal.
-pub mod Cells
+-- What the sort is given of the keys.
 pub mod Kept

@@ -25,6 +25,10 @@ startOf key = key * 2654435769 / 1048576 % cellCount
 abbrev pub onward : ℕ → ℕ → ℕ
 onward first d = (first + d) % cellCount
 
+-- the cells that a key looks at, one after another
+abbrev pub cellsOf : ℕ → ℕ → ℕ
+cellsOf key = onward (startOf key)
+
 -- what comes of seating a key, and the cells afterwards
 pub record Seated : Type 0 where
   pub seat : Seat
@@ -44,7 +48,7 @@ seatFrom (suc n) place d cells key =
     (seatFrom n place (d + 1) cells key))
 
 abbrev pub seated : List ℕ → ℕ → Seated
-seated cells key = seatFrom probes (onward (startOf key)) 0 cells key
+seated cells key = seatFrom probes (cellsOf key) 0 cells key
 
 -- ---- the turns of the loop over a key's cells: d of at most n were looked at
 

@@ -1,4 +1,4 @@
-// Whether keys are all different, near linear and without heap.
+// Keys told apart, near linear and without heap: a key is seated among cells, and where that fails all keys are sorted.
 ghost use mathlib.Core.Path.{_≡_};
 ghost use Prim.Native.Nat.{_≤_, _<_};
 ghost use lib.ListN.{length, getD};
@@ -9,12 +9,12 @@ ghost use Rattle.distinct.specs.Seat.{Seated, cellCount, startOf, seated
 const KEYS: usize = 1024;
 
 // How many cells there are, four for a key, and how many of them a key looks at.
-const CELLS: usize = 4096;
+pub const CELLS: usize = 4096;
 
 const PROBES: usize = 32;
 
 // What comes of seating a key: it took an empty cell, it was there before, or too many other keys stood in its way.
-enum Seat {
+pub enum Seat {
     Fresh,
     Seen,
     Crowded,
@@ -29,7 +29,7 @@ fn start(key: u32) -> usize
 
 // Seats a key in the first empty one of its cells. At each turn the d cells passed hold other keys.
 // A key of 0 leaves the empty cell empty, so that it needs no test of its own, which would be hard to predict.
-fn seat_key(cells: &mut [u32; CELLS], key: u32) -> Seat
+pub fn seat_key(cells: &mut [u32; CELLS], key: u32) -> Seat
     ensures { λ r. ⌜ record { seat = r; cells = now (cells .exit) } ≡ seated (now (cells .entry)) key ⌝ }
 {
     let first = start(key);
@@ -49,8 +49,8 @@ fn seat_key(cells: &mut [u32; CELLS], key: u32) -> Seat
     Seat::Crowded
 }
 
-// The same question by sorting: the first m kept are those of the first i keys that are not 0.
-fn by_order(keys: &[u32]) -> bool
+// Are the keys all different, 0 aside? By sorting: the first m kept are those of the first i keys that are not 0.
+pub fn by_order(keys: &[u32]) -> bool
     requires { ⌜ length (now keys) ≤ mostKeys ⌝ }
     ensures { λ r. ⌜ r ≡ distinctTo (length (now (keys .entry))) (λ i. getD (now (keys .entry)) i 0) ⌝ }
 {
@@ -65,23 +65,4 @@ fn by_order(keys: &[u32]) -> bool
         }
     }
     order::all_different(&mut kept[..m], &mut room)
-}
-
-// Are the keys all different, 0 aside? At each turn the first i are, and the cells hold just those.
-// A key that finds no seat sends the whole question to the sort, so that no choice of keys makes this slow.
-pub fn all_distinct(keys: &[u32]) -> bool
-    requires { ⌜ length (now keys) ≤ mostKeys ⌝ }
-    ensures { λ r. ⌜ r ≡ distinctTo (length (now (keys .entry))) (λ i. getD (now (keys .entry)) i 0) ⌝ }
-{
-    let mut cells = [0u32; CELLS];
-    let mut i = 0;
-    while i < keys.len() {
-        match seat_key(&mut cells, keys[i]) {
-            Seat::Fresh => {}
-            Seat::Seen => return false,
-            Seat::Crowded => return by_order(keys),
-        }
-        i += 1;
-    }
-    true
 }

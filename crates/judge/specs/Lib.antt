@@ -9,5 +9,6 @@ pub mod Standing
 pub mod Counting
 -- the code's loops
 pub mod Key
+pub mod Past
 pub mod Seen
 pub mod Pass

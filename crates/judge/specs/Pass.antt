@@ -14,37 +14,6 @@ use Rattle.judge.specs.WellFormed.{isPast, pastCount, isFilled}
 use Rattle.judge.specs.Decided.{filled-decided}
 use Rattle.judge.specs.Counted.{timeBefore, isLinked, allLinked}
 
--- ---- the child slots past the count
-
-module _ (r : Record) where
-  pub past-start : true ≡ allTo (r .count) (isPast r)
-  past-start =
-      sym
-      (at-all
-      (r .count)
-      (isPast r)
-      (λ i b. ap (λ (t : Bool). pick t (eqb (slot r i) noSlot) true) (lt-leb (r .count) i b)))
-
-  pub past-turn :
-      (i v : ℕ) (ok : Bool)
-      → r .count ≤ i
-      → v ≡ slot r i
-      → ok ≡ allTo i (isPast r)
-      → ok && eqb v noSlot ≡ allTo (i + 1) (isPast r)
-  past-turn i v ok b e h =
-      all-more
-      i
-      ok
-      (eqb v noSlot)
-      (isPast r)
-      h
-      (ap (λ (x : ℕ). eqb x noSlot) e
-      ∙ sym (ap (λ (t : Bool). pick t (eqb (slot r i) noSlot) true) (le-leb (r .count) i b)))
-
-  pub past-end : (i : ℕ) (ok : Bool) → i ≡ 8 → ok ≡ allTo i (isPast r) → ok ≡ pastCount r
-  unfolding pastCount
-  past-end i ok e h = h ∙ ap (λ (k : ℕ). allTo k (isPast r)) e
-
 -- ---- the children of a
 
 module _ (n : ℕ) (R : ℕ → Record) (a : ℕ) where

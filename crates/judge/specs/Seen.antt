@@ -1,15 +1,15 @@
 -- What a pass has seen of the records before slot s, and how the record in slot s adds to it. Assumes nothing.
-use Prim.Native.Nat.{ℕ, _+_, _*_, _≤_}
+use Prim.Native.Nat.{ℕ, _+_, _*_, _≤_, _<_}
 use mathlib.Core.Path.{_≡_, refl, sym, ap, _∙_}
-use mathlib.Core.Bool.{Bool, true, false, _&&_, _||_, not}
+use mathlib.Core.Bool.{Bool, true, false, _&&_, _||_, not, false≢true}
 use mathlib.Core.List.{List}
 use native.Mathlib.Omega.{arith}
 use native.Mathlib.Numerals.{add-one}
 use lib.Dec.{eqb}
 use mir.Val.{boolByte}
 use borrow.Author.Tests.{le-leb, lt-leb}
-use Rattle.places.specs.Choice.{pick, and-assoc, or-implies}
-use Rattle.places.specs.Test.{allTo, countTo, all-none, all-more, count-more, count-still, count-most}
+use Rattle.places.specs.Choice.{pick, or-implies}
+use Rattle.places.specs.Test.{allTo, countTo, all-none, all-short, all-more, count-more, count-still, count-most}
 use Rattle.places.specs.Sum.{sumTo, sum-more, sum-still}
 use Rattle.places.specs.Decides.{decides-same}
 use Rattle.distinct.specs.Distinct.{distinctTo}
@@ -122,11 +122,11 @@ module _ (n : ℕ) (R : ℕ → Record) where
           few = omega (arith, before .few);
         }
 
-    -- a used record
+    -- a used record, of which `ok` says whether it fits
     pub passed-used :
         (ok : Bool) (own count parent : ℕ)
         → Used (R s)
-        → ok ≡ isFilled (R s) && allLinked n R s
+        → ok ≡ (eqb (seen .kind) 0 || eqb (seen .kind) own) && (isFilled (R s) && allLinked n R s)
         → own ≡ R s .kind
         → count ≡ R s .count
         → parent ≡ R s .parent
@@ -136,7 +136,7 @@ module _ (n : ℕ) (R : ℕ → Record) where
         R
         (s + 1)
         (record {
-          fit = (seen .fit && (eqb (seen .kind) 0 || eqb (seen .kind) own)) && ok;
+          fit = seen .fit && ok;
           kind = own;
           used = seen .used + 1;
           roots = seen .roots + boolByte (eqb parent noSlot);
@@ -150,10 +150,8 @@ module _ (n : ℕ) (R : ℕ → Record) where
         ∙ or-implies (eqb (kindBefore R s) 0) (eqb (kindBefore R s) (R s .kind)) in
         record {
           fit =
-              and-assoc (seen .fit) (eqb (seen .kind) 0 || eqb (seen .kind) own) ok
-              ∙ all-more s (seen .fit) ((eqb (seen .kind) 0 || eqb (seen .kind) own) && ok) (fits n R) (before .fit)
-              ((λ i. same i && e i)
-              ∙ sym (by-use on));
+              all-more s (seen .fit) ok (fits n R) (before .fit)
+              (e ∙ ap (λ (t : Bool). t && (isFilled (R s) && allLinked n R s)) same ∙ sym (by-use on));
           kind = rw add-one (its-kind ∙ sym (ap (λ (t : Bool). pick t (R s .kind) (kindBefore R s)) on));
           used =
               count-more s (seen .used) 1 (λ a. used (R a)) (before .used)
@@ -174,16 +172,47 @@ module _ (n : ℕ) (R : ℕ → Record) where
 
 -- ---- the end of the pass
 
-module _ (n : ℕ) (R : ℕ → Record) (small : n ≤ noSlot) (seen : Seen) (all : Passed n R n seen) where
-  passed-agree : numbersAgree seen ≡ agree n R
+-- the pass ends with the last record, or with the first that does not fit; `few` keeps the numbers within their types
+pub record Ended (n : ℕ) (R : ℕ → Record) (seen : Seen) : Type 0 where
+  pub fit : seen .fit ≡ allTo n (fits n R)
+  pub whole : seen .fit ≡ true → Passed n R n seen
+  pub few : (seen .children ≤ 255 * n) × (seen .roots ≤ n)
+
+module _ (n : ℕ) (R : ℕ → Record) (seen : Seen) where
+  pub ended-whole : Passed n R n seen → Ended n R seen
+  ended-whole all =
+      record {
+        fit = all .fit;
+        whole = λ e. all;
+        few = (all .few, passed-most n R n seen all .1);
+      }
+
+  -- the record in slot s does not fit
+  pub ended-early : (s : ℕ) → s < n → Passed n R (s + 1) seen → seen .fit ≡ false → Ended n R seen
+  ended-early s b part out =
+      record {
+        fit = out ∙ sym (all-short (s + 1) n (fits n R) (omega arith) (sym (part .fit) ∙ out));
+        whole = λ e. absurd (false≢true (sym out ∙ e));
+        few = (omega (arith, part .few), omega (arith, passed-most n R (s + 1) seen part .1));
+      }
+
+module _ (n : ℕ) (R : ℕ → Record) (small : n ≤ noSlot) (seen : Seen) (end : Ended n R seen) where
+  passed-agree : seen .fit ≡ true → numbersAgree seen ≡ agree n R
   unfolding agree
-  passed-agree =
+  passed-agree e =
+      let all = end .whole e in
       λ i.
       eqb (all .roots i) (ifAny (all .used i)) && eqb (all .children i + all .roots i) (all .used i)
 
   module _ (ok : Bool) (numbers : ok ≡ numbersAgree seen) where
     looked : seen .fit && ok ≡ allTo n (fits n R) && agree n R
-    looked = λ i. all .fit i && (numbers ∙ passed-agree) i
+    looked = go (seen .fit) refl
+      where
+        go : (t : Bool) → seen .fit ≡ t → seen .fit && ok ≡ allTo n (fits n R) && agree n R
+        go true e = λ i. end .fit i && (numbers ∙ passed-agree e) i
+        go false e =
+            ap (λ (t : Bool). t && ok) e
+            ∙ sym (ap (λ (t : Bool). t && agree n R) (sym (end .fit) ∙ e))
 
     -- the pass refuses the table
     pub judged-not : seen .fit && ok ≡ false → false ≡ wellFormed n R

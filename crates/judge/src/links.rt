@@ -6,7 +6,8 @@ ghost use lib.ListN.{length};
 ghost use Rattle.table.specs.Record.{recordOf};
 ghost use Rattle.judge.specs.WellFormed.{isFilled, pastCount};
 ghost use Rattle.judge.specs.Counted.{allLinked};
-ghost use Rattle.judge.specs.Seen.{Passed};
+ghost use Rattle.judge.specs.Past.{floorOf};
+ghost use Rattle.judge.specs.Seen.{Passed, Ended};
 
 // What stands for no slot: past the children, and for the root's parent.
 const NO_SLOT: u16 = 65535;
@@ -17,18 +18,36 @@ const KINDS: u8 = 2;
 // Most children of a record.
 const MOST: usize = 8;
 
-// Are the child slots past the count 65,535? At each turn `ok` says so of those before i.
+// The least number whose 16-bit parts from part c on, of four, are 65,535.
+fn floor(c: usize) -> u64
+    requires { ⌜ c ≤ 4 ⌝ }
+    ensures { λ r. ⌜ r ≡ floorOf c ⌝ }
+{
+    if c == 0 {
+        return 0xffffffffffffffff;
+    }
+    if c == 1 {
+        return 0xffffffffffff0000;
+    }
+    if c == 2 {
+        return 0xffffffff00000000;
+    }
+    if c == 3 { 0xffff000000000000 } else { 0 }
+}
+
+// Are the child slots past the count 65,535? Four at a time, so that the count is no loop's end, which would be hard to
+// predict.
 fn past_ok(t: &[u8], s: usize, count: usize) -> bool
     requires { ⌜ (s * 64 + 64 ≤ length (now t)) × (count ≡ recordOf (now t) s .count) × (count ≤ 8) ⌝ }
     ensures { λ r. ⌜ r ≡ pastCount (recordOf (now (t .entry)) s) ⌝ }
 {
-    let mut ok = true;
-    let mut i = count;
-    while i < MOST {
-        ok = ok & (table::slot_of(t, s, i) == NO_SLOT);
-        i += 1;
+    let low = table::four_slots(t, s, 0);
+    let high = table::four_slots(t, s, 1);
+    if count < 4 {
+        (floor(count) <= low) & (floor(0) <= high)
+    } else {
+        floor(count - 4) <= high
     }
-    ok
 }
 
 // Is each child in the table, does it name s as its parent, and is it younger than the one before it, the first than
@@ -65,7 +84,7 @@ fn record_ok(t: &[u8], n: usize, s: usize, kind: u8, count: u8) -> bool
     if (timestamp == 0) | (kind == 0) | (kind > KINDS) | (count as usize > MOST) {
         return false;
     }
-    past_ok(t, s, count as usize) & children_ok(t, n, s, count as usize, timestamp)
+    past_ok(t, s, count as usize) && children_ok(t, n, s, count as usize, timestamp)
 }
 
 // What a pass has seen of the records before a slot: whether all of them fit, the kind of the last used one, how many
@@ -96,7 +115,8 @@ fn look(t: &[u8], n: usize, s: usize, seen: Seen) -> Seen
     let count = table::count_of(t, s);
     let root = table::parent_of(t, s) == NO_SLOT;
     Seen {
-        fit: seen.fit & ((seen.kind == 0) | (seen.kind == kind)) & record_ok(t, n, s, kind, count),
+        fit: seen.fit
+            & (((seen.kind == 0) | (seen.kind == kind)) && record_ok(t, n, s, kind, count)),
         kind,
         used: seen.used + 1,
         roots: seen.roots + root as usize,
@@ -104,10 +124,10 @@ fn look(t: &[u8], n: usize, s: usize, seen: Seen) -> Seen
     }
 }
 
-// The whole pass. At each turn it has seen the records before s.
+// The whole pass, up to the first record that does not fit. At each turn it has seen the records before s, and they fit.
 pub fn links(t: &[u8], n: usize) -> Seen
     requires { ⌜ (n * 64 ≤ length (now t)) × (n ≤ 1024) ⌝ }
-    ensures { λ r. ⌜ Passed n (recordOf (now (t .entry))) n r ⌝ }
+    ensures { λ r. ⌜ Ended n (recordOf (now (t .entry))) r ⌝ }
 {
     let mut seen = Seen {
         fit: true,
@@ -119,6 +139,9 @@ pub fn links(t: &[u8], n: usize) -> Seen
     let mut s = 0;
     while s < n {
         seen = look(t, n, s, seen);
+        if !seen.fit {
+            return seen;
+        }
         s += 1;
     }
     seen

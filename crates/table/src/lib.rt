@@ -5,6 +5,7 @@ mod write;
 
 pub use read::card_of;
 pub use read::count_of;
+pub use read::four_slots;
 pub use read::is_free;
 pub use read::kind_of;
 pub use read::parent_of;

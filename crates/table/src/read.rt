@@ -2,6 +2,7 @@
 ghost use mathlib.Core.Path.{_≡_};
 ghost use Prim.Native.Nat.{_+_, _*_, _≤_, _<_};
 ghost use lib.ListN.{length};
+ghost use Rattle.distance.specs.Signature.{wordOf};
 ghost use Rattle.table.specs.Record.{recordOf, slot};
 ghost use Rattle.table.specs.Same.{TellsFree};
 use super::COUNT;
@@ -62,6 +63,14 @@ pub fn slot_of(t: &[u8], s: usize, i: usize) -> u16
     ensures { λ r. ⌜ r ≡ slot (recordOf (now (t .entry)) s) i ⌝ }
 {
     number::get_u16(t, s * RECORD + SLOTS + 2 * i)
+}
+
+// Child slots 4k to 4k + 3 as one number, the first lowest.
+pub fn four_slots(t: &[u8], s: usize, k: usize) -> u64
+    requires { ⌜ (s * 64 + 64 ≤ length (now t)) × (k < 2) ⌝ }
+    ensures { λ r. ⌜ r ≡ wordOf (recordOf (now (t .entry)) s .slots) k ⌝ }
+{
+    number::get_u64(t, s * RECORD + SLOTS + 8 * k)
 }
 
 pub fn signature_of(t: &[u8], s: usize) -> Signature

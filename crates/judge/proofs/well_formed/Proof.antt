@@ -4,7 +4,7 @@ use mathlib.Core.Path.{refl, sym, _∙_}
 use mathlib.Core.Bool.{true, false}
 use Rattle.distinct.specs.Distinct.{distinctTo}
 use Rattle.table.specs.Record.{recordOf}
-use Rattle.judge.specs.Seen.{passed-most, judged, judged-not}
+use Rattle.judge.specs.Seen.{judged, judged-not}
 use native.Mathlib.Omega.{arith}
 use borrow.Author.Needs.{needs}
 use Rattle.judge.proofs.well_formed.Statement.{statement}
@@ -16,9 +16,8 @@ links-requires c κs = search needs
 numbers-agree-requires : tie.Need-numbers-agree-requires
 numbers-agree-requires c κs =
     let b = c .before .before in
-    let all = c .links .ensures in
-    let most = passed-most (b .args .n) (recordOf (b .args .t .now)) (b .args .n) (c .links .result) all in
-    (omega (arith, all .few, b .pre .1), omega (arith, most .1, b .pre .1))
+    let few = c .links .ensures .few in
+    (omega (arith, few .0, b .pre .1), omega (arith, few .1, b .pre .1))
 
 keys-distinct-requires : tie.Need-keys-distinct-requires
 keys-distinct-requires c κs = search needs

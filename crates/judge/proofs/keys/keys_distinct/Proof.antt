@@ -1,35 +1,67 @@
--- `judge::keys::keys_distinct` meets its contract. The loop's invariant: the first s places hold the keys of the
--- records before s. Assumes nothing.
-use Prim.Native.Nat.{ℕ, _≤_, _<_, _-_}
-use mathlib.Core.Path.{_≡_, refl, sym, _∙_}
-use lib.ListN.{length, getD, set, length-set}
-use lib.Seq.{getD-set-same, getD-set-other, length-take-le}
-use borrow.Author.Count.{below-more}
-use Rattle.table.specs.Record.{recordOf}
-use Rattle.judge.specs.Key.{keyOf, gathered}
+-- `judge::keys::keys_distinct` meets its contract. The loop's invariant: the keys of the records before s are distinct,
+-- and the cells hold just those. Assumes nothing.
+use Prim.Native.Nat.{ℕ, _-_, _≤_}
+use mathlib.Core.Path.{_≡_, sym, ap, _∙_}
+use mathlib.Core.List.{List}
+use native.Mathlib.Nat.{mod-lt}
 use native.Mathlib.Omega.{arith}
 use borrow.Author.Needs.{needs}
+use lib.Dec.{lit<}
+use Rattle.distinct.specs.Distinct.{distinctTo}
+use Rattle.distinct.specs.Seat.{cellCount, cellsOf, seated}
+use Rattle.distinct.specs.Cells.{Holds, holds-none, holds-fresh, holds-seen}
+use Rattle.table.specs.Record.{recordOf}
+use Rattle.judge.specs.Key.{keyOf}
+use Rattle.judge.specs.declared.keys.Key.{Key}
 use Rattle.judge.proofs.keys.keys_distinct.Statement.{statement}
 use Rattle.judge.proofs.keys.keys_distinct.Tie as tie
 
+-- the key of the record in slot s
+abbrev keyAt : List ℕ → Key → ℕ → ℕ
+keyAt t key s = keyOf key (recordOf t s)
+
 abbrev Inv-loop : tie.InvT-loop
-Inv-loop t n key keys₀ s₀ keys s =
-    (s ≤ n) × (length keys ≡ 1024) × ((k : ℕ) → k < s → getD keys k 0 ≡ keyOf key (recordOf t k))
+Inv-loop t n key cells₀ s₀ cells s = (s ≤ n) × Holds cellsOf (keyAt t key) s cells
 
 abbrev μ-loop : tie.MeasureT-loop
-μ-loop t n key keys₀ s₀ keys s = n - s
+μ-loop t n key cells₀ s₀ cells s = n - s
 
 loop-holds : tie.Need-loop-holds Inv-loop μ-loop
-loop-holds c = (omega arith, refl, λ k b. absurd (omega arith))
+loop-holds c = (omega arith, holds-none _ _ cellCount (λ key d. mod-lt _ (lit< tt)))
 
 key-of-requires : tie.Need-key-of-requires Inv-loop μ-loop
 key-of-requires c κs = search needs
 
-mul-keys : tie.Need-mul-keys Inv-loop μ-loop
-mul-keys c = search needs
+seat-key-requires : tie.Need-seat-key-requires Inv-loop μ-loop
+seat-key-requires c κs = search needs
 
-array-write-keys : tie.Need-array-write-keys Inv-loop μ-loop
-array-write-keys c = search needs
+enum-told : tie.Need-enum-told Inv-loop μ-loop
+enum-told c = search needs
+
+enum-told-2 : tie.Need-enum-told-2 Inv-loop μ-loop
+enum-told-2 c = search needs
+
+returns : tie.Need-returns Inv-loop μ-loop
+returns c =
+    let seat = c .before .before in
+    let key = seat .before in
+    let l = key .before .before .before .loop in
+    sym
+    (holds-seen
+    (l .inv .1)
+    (seat .seat-key .ensures ∙ ap (seated (l .cells)) (key .key-of .ensures))
+    _
+    (omega arith)
+    (c .enum-told2 .given .1))
+
+enum-told-3 : tie.Need-enum-told-3 Inv-loop μ-loop
+enum-told-3 c = search needs
+
+by-order-requires : tie.Need-by-order-requires Inv-loop μ-loop
+by-order-requires c κs = search needs
+
+returns-2 : tie.Need-returns-2 Inv-loop μ-loop
+returns-2 c = c .by-order .ensures
 
 add-s : tie.Need-add-s Inv-loop μ-loop
 add-s c = search needs
@@ -39,39 +71,22 @@ loop-less c = search needs
 
 loop-again : tie.Need-loop-again Inv-loop μ-loop
 loop-again c =
-    let l = c .before .before .loop in
-    let a = c .before .before .before .before .args in (
+    let seat = c .before .before in
+    let key = seat .before in
+    let l = key .before .before .before .loop in (
       omega arith,
-      length-set (l .keys) (l .s) (c .key-of .result) ∙ l .inv .1,
-      below-more
-          (λ (k : ℕ). getD (set (l .keys) (l .s) (c .key-of .result)) k 0 ≡ keyOf (a .key) (recordOf (a .t .now) k))
-          (l .s)
-          (λ k b. getD-set-other (l .keys) (l .s) k (c .key-of .result) 0 (λ q. omega arith) ∙ l .inv .2 k b)
-          (getD-set-same (l .keys) (l .s) (c .key-of .result) 0 (omega arith) ∙ c .key-of .ensures),
+      holds-fresh
+          (l .inv .1)
+          (seat .seat-key .ensures ∙ ap (seated (l .cells)) (key .key-of .ensures))
+          (c .enum-told .given .1),
     )
 
-array-share-prefix-keys : tie.Need-array-share-prefix-keys Inv-loop μ-loop
-array-share-prefix-keys c = search needs
-
-slice-aggregate-all-distinct : tie.Need-slice-aggregate-all-distinct Inv-loop μ-loop
-slice-aggregate-all-distinct c = sym (length-take-le _ (c .before .before .loop .keys) (omega arith))
-
-all-distinct-requires : tie.Need-all-distinct-requires Inv-loop μ-loop
-all-distinct-requires c κs =
-    let a = c .before .before .before .before .args in
-    omega (arith, length-take-le (a .n) (c .before .before .loop .keys) (omega arith))
-
-returns : tie.Need-returns Inv-loop μ-loop
-returns c =
-    let a = c .before .before .before .before .before .args in
-    let l = c .before .before .before .loop in
-    c .all-distinct .ensures
-    ∙ gathered
-    (a .n)
-    (l .keys)
-    (λ s. keyOf (a .key) (recordOf (a .t .now) s))
-    (omega arith)
-    (λ k b. l .inv .2 k (omega arith))
+returns-3 : tie.Need-returns-3 Inv-loop μ-loop
+returns-3 c =
+    let l = c .before .loop in
+    let a = c .before .before .before .args in
+    let e : l .s ≡ a .n = omega arith in
+    sym (ap (λ (n : ℕ). distinctTo n (keyAt (a .t .now) (a .key))) (sym e) ∙ l .inv .1 .apart)
 
 pub keys-distinct-spec : {M : Type 1} → statement M
 keys-distinct-spec =
@@ -81,12 +96,14 @@ keys-distinct-spec =
     μ-loop
     loop-holds
     key-of-requires
-    mul-keys
-    array-write-keys
+    seat-key-requires
+    enum-told
+    enum-told-2
+    returns
+    enum-told-3
+    by-order-requires
+    returns-2
     add-s
     loop-less
     loop-again
-    array-share-prefix-keys
-    slice-aggregate-all-distinct
-    all-distinct-requires
-    returns)
+    returns-3)

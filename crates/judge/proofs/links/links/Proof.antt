@@ -2,9 +2,10 @@
 use Prim.Native.Nat.{ℕ, _≤_, _-_}
 use mathlib.Core.Path.{_≡_, subst}
 use Rattle.table.specs.Record.{recordOf}
-use Rattle.judge.specs.Seen.{Passed, passed-none}
+use Rattle.judge.specs.Seen.{Passed, passed-none, ended-whole, ended-early}
 use native.Mathlib.Omega.{arith}
 use borrow.Author.Needs.{needs}
+use borrow.Author.Tests.{not-true}
 use Rattle.judge.proofs.links.links.Statement.{statement}
 use Rattle.judge.proofs.links.links.Tie as tie
 
@@ -20,6 +21,19 @@ loop-holds c = (omega arith, passed-none (c .before .args .n) (recordOf (c .befo
 look-requires : tie.Need-look-requires Inv-loop μ-loop
 look-requires c κs = search needs
 
+returns : tie.Need-returns Inv-loop μ-loop
+returns c =
+    let turn = c .before .before .before .before in
+    let a = turn .before .before .args in
+    ended-early
+    (a .n)
+    (recordOf (a .t .now))
+    (c .before .before .look .result)
+    (turn .loop .s)
+    (omega (arith, c .before .before .before .loop-test))
+    (c .before .before .look .ensures)
+    (not-true (c .before .before .look .result .fit) (c .if1 .taken))
+
 add-s : tie.Need-add-s Inv-loop μ-loop
 add-s c = search needs
 
@@ -29,13 +43,15 @@ loop-less c = search needs
 loop-again : tie.Need-loop-again Inv-loop μ-loop
 loop-again c = search needs
 
-returns : tie.Need-returns Inv-loop μ-loop
-returns c =
+returns-2 : tie.Need-returns-2 Inv-loop μ-loop
+returns-2 c =
     let a = c .before .before .before .args in
+    let seen = c .before .loop .seen in
     let end : c .before .loop .s ≡ a .n = omega arith in
-    subst (λ (s : ℕ). Passed (a .n) (recordOf (a .t .now)) s (c .before .loop .seen)) end (c .before .loop .inv .1)
+    ended-whole (a .n) (recordOf (a .t .now)) seen
+    (subst (λ (s : ℕ). Passed (a .n) (recordOf (a .t .now)) s seen) end (c .before .loop .inv .1))
 
 pub links-spec : {M : Type 1} → statement M
 links-spec =
     tie.close
-    (tie.spec Inv-loop μ-loop loop-holds look-requires add-s loop-less loop-again returns)
+    (tie.spec Inv-loop μ-loop loop-holds look-requires returns add-s loop-less loop-again returns-2)

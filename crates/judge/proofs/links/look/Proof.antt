@@ -1,8 +1,12 @@
 -- `judge::links::look` meets its contract: a record without card adds whether it is free, any other its own numbers.
 -- Assumes nothing.
-use mathlib.Core.Path.{sym, _∙_}
+use mathlib.Core.Path.{sym, ap, _∙_}
+use mathlib.Core.Bool.{Bool, _&&_}
+use mathlib.Core.Logic.{⊎-elim}
 use lib.Dec.{eqb}
 use Rattle.table.specs.Record.{recordOf}
+use Rattle.judge.specs.WellFormed.{isFilled}
+use Rattle.judge.specs.Counted.{allLinked}
 use Rattle.judge.specs.Seen.{passed-most, passed-free, passed-used, byte-most, told}
 use native.Mathlib.Omega.{arith}
 use borrow.Author.Needs.{needs}
@@ -17,16 +21,16 @@ is-free-requires c κs = search needs
 
 returns : tie.Need-returns
 returns c =
-    let b = c .before .before .before .before .before in
+    let b = c .before .before .before .before in
     passed-free
     (b .args .n)
     (recordOf (b .args .t .now))
     (b .args .s)
     (b .args .seen)
     (b .pre .3)
-    (c .before .is-free .result)
-    (sym (c .before .before .before .card-of .ensures) ∙ c .before .before .if1 .taken)
-    (told (b .args .t .now) (b .args .s) (c .before .is-free .result) (c .before .is-free .ensures))
+    (c .is-free .result)
+    (sym (c .before .before .card-of .ensures) ∙ c .before .if1 .taken)
+    (told (b .args .t .now) (b .args .s) (c .is-free .result) (c .is-free .ensures))
 
 kind-of-requires : tie.Need-kind-of-requires
 kind-of-requires c κs = search needs
@@ -40,48 +44,51 @@ parent-of-requires c κs = search needs
 record-ok-requires : tie.Need-record-ok-requires
 record-ok-requires c κs = search needs
 
-add-t18 : tie.Need-add-t18
-add-t18 c =
-    let b = c .before .before .before .before .before .before .before .before .before .before .before in
+add-t44 : tie.Need-add-t44
+add-t44 c =
+    let b = c .before .before .before .before .before .before .before in
     let most = passed-most (b .args .n) (recordOf (b .args .t .now)) (b .args .s) (b .args .seen) (b .pre .3) in
     omega (arith, most .0, b .pre .1, b .pre .2)
 
-cast-t19 : tie.Need-cast-t19
-cast-t19 c = search needs
+cast-t47 : tie.Need-cast-t47
+cast-t47 c = search needs
 
-add-t20 : tie.Need-add-t20
-add-t20 c =
-    let b = c .before .before .before .before .before .before .before .before .before .before .before .before in
+add-t48 : tie.Need-add-t48
+add-t48 c =
+    let b = c .before .before .before .before .before .before .before in
     let most = passed-most (b .args .n) (recordOf (b .args .t .now)) (b .args .s) (b .args .seen) (b .pre .3) in
-    let parent = c .before .before .before .before .before .before .parent-of in
-    omega (arith, most .1, b .pre .1, b .pre .2, byte-most (eqb (parent .result) 65535))
+    omega (arith, most .1, b .pre .1, b .pre .2, byte-most (eqb (c .before .parent-of .result) 65535))
 
-cast-t21 : tie.Need-cast-t21
-cast-t21 c = search needs
+cast-t51 : tie.Need-cast-t51
+cast-t51 c = search needs
 
-add-t22 : tie.Need-add-t22
-add-t22 c = search needs
+add-t52 : tie.Need-add-t52
+add-t52 c = search needs
 
 returns-2 : tie.Need-returns-2
 returns-2 c =
-    let judged = c .before .before .before in
-    let hung = judged .before .before .before .before in
+    let hung = c .before in
     let counted = hung .before in
     let kinded = counted .before in
     let carded = kinded .before .before in
     let b = carded .before .before in
+    let R = recordOf (b .args .t .now) in
+    let formed = isFilled (R (b .args .s)) && allLinked (b .args .n) R (b .args .s) in
     passed-used
     (b .args .n)
-    (recordOf (b .args .t .now))
+    R
     (b .args .s)
     (b .args .seen)
     (b .pre .3)
-    (judged .record-ok .result)
+    (c .if2 .t30)
     (kinded .kind-of .result)
     (counted .count-of .result)
     (hung .parent-of .result)
     (omega (arith, carded .card-of .ensures, kinded .before .if1 .left))
-    (judged .record-ok .ensures)
+    (⊎-elim
+    (λ w. w .2 ∙ w .1 .ensures ∙ sym (ap (λ (t : Bool). t && formed) (w .0 .taken)))
+    (λ w. w .1 ∙ w .0 .left ∙ sym (ap (λ (t : Bool). t && formed) (w .0 .left)))
+    (c .if2 .came))
     (kinded .kind-of .ensures)
     (counted .count-of .ensures)
     (hung .parent-of .ensures)
@@ -98,9 +105,9 @@ look-spec =
     count-of-requires
     parent-of-requires
     record-ok-requires
-    add-t18
-    cast-t19
-    add-t20
-    cast-t21
-    add-t22
+    add-t44
+    cast-t47
+    add-t48
+    cast-t51
+    add-t52
     returns-2)

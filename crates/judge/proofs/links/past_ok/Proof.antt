@@ -1,56 +1,72 @@
--- `judge::links::past_ok` meets its contract. The loop's invariant: `ok` says whether the slots before i are as they
--- should be, those within the count left aside. Assumes nothing.
-use Prim.Native.Nat.{ℕ, _≤_, _-_}
-use mathlib.Core.Path.{_≡_, sym, ap, _∙_}
-use Rattle.places.specs.Test.{allTo}
-use Rattle.table.specs.Record.{recordOf}
-use Rattle.judge.specs.WellFormed.{isPast}
+-- `judge::links::past_ok` meets its contract: one number tells of four child slots whether those past the count are
+-- 65,535. Assumes nothing.
+use Prim.Native.Nat.{ℕ, _+_, _-_, _*_, _<_}
+use mathlib.Core.Path.{_≡_, ap, _∙_}
+use mathlib.Core.Bool.{_&&_}
+use mathlib.Core.List.{List}
+use lib.Dec.{leb}
+use Rattle.number.specs.Frame.{Bytes, number-lt}
+use Rattle.table.specs.Record.{recordOf, slot, slotsAt}
+use Rattle.table.specs.Same.{slot-at}
+use Rattle.judge.specs.Past.{floorOf, past-low, past-high}
 use native.Mathlib.Omega.{arith}
 use borrow.Author.Needs.{needs}
-use Rattle.judge.specs.Pass.{past-start, past-turn, past-end}
 use Rattle.judge.proofs.links.past_ok.Statement.{statement}
 use Rattle.judge.proofs.links.past_ok.Tie as tie
 
-abbrev Inv-loop : tie.InvT-loop
-Inv-loop t s count ok₀ i₀ ok i = (count ≤ i) × (i ≤ 8) × (ok ≡ allTo i (isPast (recordOf t s)))
+slots-fit : (l : List ℕ) (s : ℕ) → Bytes l → (i : ℕ) → i < 8 → slot (recordOf l s) i < 65536
+slots-fit l s h i b = rw (slot-at l s i b) (number-lt 2 l (slotsAt s + 2 * i) h)
 
-abbrev μ-loop : tie.MeasureT-loop
-μ-loop t s count ok₀ i₀ ok i = 8 - i
+four-slots-requires : tie.Need-four-slots-requires
+four-slots-requires c κs = search needs
 
-loop-holds : tie.Need-loop-holds Inv-loop μ-loop
-loop-holds c =
-    let r = recordOf (c .before .args .t .now) (c .before .args .s) in
-    (omega arith, omega arith, past-start r ∙ ap (λ (k : ℕ). allTo k (isPast r)) (sym (c .before .pre .1)))
+four-slots-requires-2 : tie.Need-four-slots-requires-2
+four-slots-requires-2 c κs = search needs
 
-slot-of-requires : tie.Need-slot-of-requires Inv-loop μ-loop
-slot-of-requires c κs = search needs
+floor-requires : tie.Need-floor-requires
+floor-requires c κs = search needs
 
-add-i : tie.Need-add-i Inv-loop μ-loop
-add-i c = search needs
+floor-requires-2 : tie.Need-floor-requires-2
+floor-requires-2 c κs = search needs
 
-loop-less : tie.Need-loop-less Inv-loop μ-loop
-loop-less c = search needs
+floor-requires-3 : tie.Need-floor-requires-3
+floor-requires-3 c κs = search needs
 
-loop-again : tie.Need-loop-again Inv-loop μ-loop
-loop-again c =
-    let l = c .before .before .loop in
-    let a = c .before .before .before .before .args in
-    let r = recordOf (a .t .now) (a .s) in (
-      omega arith,
-      omega arith,
-      past-turn r (l .i) (c .slot-of .result) (l .ok) (omega arith) (c .slot-of .ensures) (l .inv .2),
-    )
-
-returns : tie.Need-returns Inv-loop μ-loop
+returns : tie.Need-returns
 returns c =
-    past-end
-    (recordOf (c .before .before .before .args .t .now) (c .before .before .before .args .s))
-    (c .before .loop .i)
-    (c .before .loop .ok)
-    (omega arith)
-    (c .before .loop .inv .2)
+    let high = c .before .before .before in
+    let low = high .before in
+    let known = low .before .shared-slice-known .given in
+    let b = low .before .before in
+    let r = recordOf (b .args .t .now) (b .args .s) in
+    let count : b .args .count ≡ r .count = b .pre .1 in
+    let floors : c .before .floor .result ≡ floorOf (r .count) = c .before .floor .ensures ∙ ap floorOf count in
+    (λ i. leb (floors i) (low .four-slots .ensures i) && leb (c .floor2 .ensures i) (high .four-slots2 .ensures i))
+    ∙ past-low r (slots-fit (b .args .t .now) (b .args .s) (λ i. omega (arith, known i)))
+    (omega (arith, c .before .before .if1 .taken))
+
+returns-2 : tie.Need-returns-2
+returns-2 c =
+    let high = c .before .before in
+    let low = high .before in
+    let known = low .before .shared-slice-known .given in
+    let b = low .before .before in
+    let r = recordOf (b .args .t .now) (b .args .s) in
+    let count : b .args .count ≡ r .count = b .pre .1 in
+    let floors : c .floor3 .result ≡ floorOf (r .count - 4) =
+    c .floor3 .ensures ∙ ap (λ (k : ℕ). floorOf (k - 4)) count in
+    (λ i. leb (floors i) (high .four-slots2 .ensures i))
+    ∙ past-high r (slots-fit (b .args .t .now) (b .args .s) (λ i. omega (arith, known i)))
+    (omega (arith, c .before .if1 .left)) (omega (arith, b .pre .2))
 
 pub past-ok-spec : {M : Type 1} → statement M
 past-ok-spec =
     tie.close
-    (tie.spec Inv-loop μ-loop loop-holds slot-of-requires add-i loop-less loop-again returns)
+    (tie.spec
+    four-slots-requires
+    four-slots-requires-2
+    floor-requires
+    floor-requires-2
+    floor-requires-3
+    returns
+    returns-2)
