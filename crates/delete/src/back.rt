@@ -16,9 +16,7 @@ ghost use Rattle.delete.specs.Delete.{deleted};
 ghost use Rattle.delete.specs.Clock.{slotIn};
 ghost use Rattle.delete.specs.Stale.{puts};
 ghost use Rattle.delete.specs.Pending.{Pending};
-
-// The root's parent.
-const NO_SLOT: u16 = 65535;
+use table::NO_SLOT;
 
 // The first that goes back into an emptied table is its root.
 fn root_then(depth: usize, s: usize, root: usize) -> usize

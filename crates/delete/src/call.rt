@@ -18,23 +18,15 @@ use super::clock::last_staying;
 use super::gather::in_age_order;
 use super::remove::unhang;
 use insert::Changed;
+use table::RECORD;
+use table::refusal::ABSENT;
+use table::refusal::ARGUMENT;
+use table::refusal::CLOCK;
+use table::refusal::DONE;
+use table::refusal::SIZE;
+use table::refusal::TABLE;
 
-// The refusal numbers that delete gives; 0 means done.
-const DONE: u8 = 0;
-
-const SIZE: u8 = 1;
-
-const TABLE: u8 = 2;
-
-const ARGUMENT: u8 = 3;
-
-const ABSENT: u8 = 6;
-
-const CLOCK: u8 = 8;
-
-// Bytes of a record, and the largest arity.
-const RECORD: usize = 64;
-
+// The largest arity.
 const MOST: u8 = 8;
 
 // The largest timestamp that four bytes hold.

@@ -9,9 +9,7 @@ ghost use Rattle.insert.specs.Descent.{Stands};
 ghost use Rattle.delete.specs.Delete.{disowning, unhung};
 ghost use Rattle.delete.specs.Leaving.{Held};
 ghost use Rattle.delete.specs.Closing.{withSlots, closing, Hosts};
-
-// "65,535 past the count", and the root's parent
-const NO_SLOT: u16 = 65535;
+use table::NO_SLOT;
 
 // The first n child slots of the record in slot p are closed up without v. At each turn those of the first k that stay
 // stand first, w of them, and the other slots are as they were.

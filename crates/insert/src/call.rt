@@ -4,27 +4,17 @@ ghost use Rattle.insert.specs.Insert.{Outcome, rightArguments, insertOf}
 ghost use Rattle.insert.specs.Refusals.{earlyOf, lateBy};
 use super::place::place;
 use survey::Findings;
+use table::RECORD;
+use table::refusal::ARGUMENT;
+use table::refusal::CLOCK;
+use table::refusal::DONE;
+use table::refusal::FULL;
+use table::refusal::KIND;
+use table::refusal::SIZE;
+use table::refusal::TABLE;
+use table::refusal::TWICE;
 
-// The refusal numbers that insert gives; 0 means done.
-const DONE: u8 = 0;
-
-const SIZE: u8 = 1;
-
-const TABLE: u8 = 2;
-
-const ARGUMENT: u8 = 3;
-
-const KIND: u8 = 4;
-
-const TWICE: u8 = 5;
-
-const FULL: u8 = 7;
-
-const CLOCK: u8 = 8;
-
-// Bytes of a record, and of a signature.
-const RECORD: usize = 64;
-
+// Bytes of a signature.
 const SIGNATURE: usize = 32;
 
 // The largest arity, and the largest timestamp.

@@ -8,12 +8,12 @@ ghost use Rattle.insert.specs.Newcomer.{newcomer};
 ghost use Rattle.insert.specs.Hang.{Hangable, leaves, hungIn};
 ghost use Rattle.insert.specs.Placeable.{Placeable};
 use super::descend::descend;
-use super::record::NO_SLOT;
 use super::record::adopt;
 use super::record::name;
 use super::record::seat;
 use distance::Signature;
 use survey::Findings;
+use table::NO_SLOT;
 
 // The newcomer whose card, kind and signature stand in slot s. Returns the distances worked out.
 pub fn hang(

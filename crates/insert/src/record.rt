@@ -9,9 +9,7 @@ ghost use Rattle.view.specs.Place.{raised, adopting, fresh};
 ghost use Rattle.view.specs.Stored.{brought};
 ghost use Rattle.insert.specs.Newcomer.{named, slotless};
 use distance::Signature;
-
-// "65,535 for the root", and past the count of children.
-pub(crate) const NO_SLOT: u16 = 65535;
+use table::NO_SLOT;
 
 // 1. The covering radius of the record in slot a becomes the larger of itself and the distance.
 pub(crate) fn raise(t: &mut [u8], a: usize, away: u32)

@@ -8,9 +8,7 @@ ghost use Rattle.judge.specs.WellFormed.{isFilled, pastCount};
 ghost use Rattle.judge.specs.Counted.{allLinked};
 ghost use Rattle.judge.specs.Past.{floorOf};
 ghost use Rattle.judge.specs.Seen.{Passed, Ended};
-
-// What stands for no slot: past the children, and for the root's parent.
-const NO_SLOT: u16 = 65535;
+use table::NO_SLOT;
 
 // The largest kind there is.
 const KINDS: u8 = 2;

@@ -5,6 +5,7 @@ ghost use Rattle.table.specs.Clear.{Cleared, clearOf};
 ghost use Rattle.survey.specs.Survey.{usedIn, lowestFree, rootOf, kindOf, largestTimestamp};
 ghost use Rattle.probe.specs.Probe.{distanceProbe, judgeProbe, asked, slotQuestion};
 ghost use Rattle.probe.specs.Tells.{Tells};
+use table::RECORD;
 
 const NO_ANSWER: u32 = 4294967295;
 
@@ -32,7 +33,7 @@ pub extern "C" fn probe_judge(t: &[u8]) -> u32
     ensures { λ r. ⌜ r ≡ judgeProbe (now (t .entry)) ⌝ }
 {
     if table::right_size(t) {
-        let n = t.len() / 64;
+        let n = t.len() / RECORD;
         if judge::well_formed(t, n) { 0 } else { 2 }
     } else {
         1
@@ -61,7 +62,7 @@ fn tell(t: &[u8]) -> Told
     ensures { λ r. ⌜ Tells (now (t .entry)) r ⌝ }
 {
     if probe_judge(t) == 0 {
-        let f = survey::survey(t, t.len() / 64);
+        let f = survey::survey(t, t.len() / RECORD);
         Told {
             used: f.used as u32,
             lowest: f.lowest as u32,
@@ -120,7 +121,7 @@ pub extern "C" fn probe_slot_of(t: &[u8], card: u32) -> u32
     ensures { λ r. ⌜ r ≡ asked (now (t .entry)) (slotQuestion card) ⌝ }
 {
     if probe_judge(t) == 0 {
-        let n = t.len() / 64;
+        let n = t.len() / RECORD;
         if card == 0 {
             return n as u32;
         }

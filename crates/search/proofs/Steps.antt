@@ -191,9 +191,11 @@ module _ (Q : Query) where
   visit-step zero a t h = absurd (h refl)
   visit-step (suc left) a t h = let e : suc left - 1 ≡ left = omega arith in rw e
 
-  pub visit-out : (left a t : ℕ) → (left ≡ 0 → ⊥) → entersAt a t ≡ false → enteredFrom Q left a t ≡ []
+  -- whatever depth is left
+  pub visit-out : (left a t : ℕ) → entersAt a t ≡ false → enteredFrom Q left a t ≡ []
   unfolding keep
-  visit-out left a t h e = visit-step left a t h ∙ rw e
+  visit-out zero a t e = visit-end 0 a t refl
+  visit-out (suc left) a t e = visit-step (suc left) a t (λ z. omega arith) ∙ rw e
 
   pub visit-in :
       (left a t : ℕ) → (left ≡ 0 → ⊥) → entersAt a t ≡ true → enteredFrom Q left a t ≡ a ∷ restFrom (left - 1) a t 0

@@ -14,23 +14,14 @@ ghost use Rattle.search.specs.Accepted.{Readable};
 mod walk;
 
 use distance::Signature;
+use table::RECORD;
+use table::refusal::ARGUMENT;
+use table::refusal::DONE;
+use table::refusal::KIND;
+use table::refusal::SHORT;
+use table::refusal::SIZE;
+use table::refusal::TABLE;
 use walk::Reached;
-
-// The refusal numbers that a search gives, in the paper's order.
-const DONE: u8 = 0;
-
-const SIZE: u8 = 1;
-
-const TABLE: u8 = 2;
-
-const ARGUMENT: u8 = 3;
-
-const KIND: u8 = 4;
-
-const SHORT: u8 = 9;
-
-// Bytes of a record.
-const RECORD: usize = 64;
 
 // "No bound on time": above every timestamp that four bytes hold.
 const NO_BOUND: u64 = 4294967296;

@@ -5,8 +5,8 @@ ghost use Prim.Native.Nat.{ℕ, _+_, _*_, _^_, _≤_, _<_, min};
 ghost use lib.ListN.{length, getD};
 ghost use lib.Seq.{sets};
 ghost use Rattle.distance.specs.Laws.{farthest};
-ghost use Rattle.table.specs.Record.{recordOf, slot, children};
-ghost use Rattle.search.specs.Walk.{Stands, Walkable, isEntered, cardWithin, smallestTo, awayFrom, Compared};
+ghost use Rattle.table.specs.Record.{recordOf, slot};
+ghost use Rattle.search.specs.Walk.{Stands, Walkable, isEntered, cardWithin, awayFrom, Compared};
 ghost use Rattle.search.specs.Walk.{state, query, childBound, walked};
 use distance::Signature;
 
@@ -95,20 +95,6 @@ fn distances(t: &[u8], kind: u8, q: Signature, s: usize, n: usize) -> [u64; 8]
     ds
 }
 
-// The smallest of `start` and the first k distances. At each turn it is that of the first j.
-fn smallest(ds: [u64; 8], k: usize, start: u64) -> u64
-    requires { ⌜ k ≤ 8 ⌝ }
-    ensures { λ r. ⌜ r ≡ smallestTo k (λ j. getD ds j 0) start ⌝ }
-{
-    let mut m = start;
-    let mut j = 0;
-    while j < k {
-        m = smaller(m, ds[j]);
-        j += 1;
-    }
-    m
-}
-
 // Step 3: the bound of child k, at the distances ds of the n children. At each turn it has met the siblings before j.
 fn bound_of(t: &[u8], s: usize, n: usize, ds: [u64; 8], k: usize, radius: u64, bound: u64) -> u64
     requires { ⌜ Walkable (now t) × Stands (now t) s × (n ≡ recordOf (now t) s .count) × (n ≤ 8) ⌝ }
@@ -131,7 +117,8 @@ fn bound_of(t: &[u8], s: usize, n: usize, ds: [u64; 8], k: usize, radius: u64, b
 }
 
 // The walk from the record in slot s, at the distance `away`; `left` is the depth left. Cards go into the list after those
-// found. At each turn list, cards and count are those of this record and of the walks from its first k children.
+// found. At each turn list, cards and count are those of this record and of the walks from its first k children, and
+// `near` is the smallest distance among them.
 pub fn walk(
     t: &[u8],
     kind: u8,
@@ -167,24 +154,18 @@ pub fn walk(
         found: found,
         count: start.count + n,
     };
+    let mut near = FARTHEST;
     let mut k = 0;
     while k < n {
         let e = ds[k];
-        if e <= smallest(ds, k, FARTHEST) + 2 * radius {
+        if e <= near + 2 * radius {
             let b = bound_of(t, s, n, ds, k, radius, bound);
-            reached = walk(
-                t,
-                kind,
-                q,
-                radius,
-                list,
-                child(t, s, k),
-                e,
-                b,
-                reached,
-                left - 1,
-            );
+            let c = child(t, s, k);
+            if enters(t, c, e, radius, b) {
+                reached = walk(t, kind, q, radius, list, c, e, b, reached, left - 1);
+            }
         }
+        near = smaller(near, e);
         k += 1;
     }
     reached

@@ -1,5 +1,6 @@
 // The record and the table in lent bytes. The places of a record's fields stand here and nowhere else in code.
 mod read;
+pub mod refusal;
 mod size;
 mod write;
 
@@ -29,7 +30,7 @@ pub use write::put_timestamp;
 pub const NO_SLOT: u16 = 65535;
 
 // Bytes of a record.
-const RECORD: usize = 64;
+pub const RECORD: usize = 64;
 
 // Bytes of the largest table, 1,024 records.
 const LARGEST: usize = 65536;

@@ -5,12 +5,9 @@ ghost use Rattle.table.specs.Table.{rightSize};
 ghost use Rattle.table.specs.Clear.{cleared, clearOf};
 use super::LARGEST;
 use super::RECORD;
+use super::refusal::DONE;
+use super::refusal::SIZE;
 use super::write::zero;
-
-// The refusal numbers that clearing gives: done, and a table of the wrong size.
-const DONE: u8 = 0;
-
-const SIZE: u8 = 1;
 
 // Whether the table's length is a multiple of 64 from 64 to 65,536.
 pub fn right_size(t: &[u8]) -> bool

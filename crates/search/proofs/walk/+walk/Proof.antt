@@ -1,9 +1,9 @@
 -- `search::walk::walk` meets its contract. The falling number is the depth left. The loop's invariant: what is left of
 -- the children's turn, entered after the list, the cards found and the count so far, is what this record and all its
--- children enter. Assumes nothing.
+-- children enter; and `near` is the smallest distance of the children passed. Assumes nothing.
 use Prim.Native.Nat.{ℕ, _+_, _-_, _^_, _≤_, _<_}
 use mathlib.Core.Path.{_≡_, refl, sym, ap, _∙_}
-use mathlib.Core.List.{_++_}
+use mathlib.Core.List.{List, _++_}
 use native.Mathlib.Omega.{arith}
 use borrow.Author.Needs.{needs}
 use borrow.Author.Tests.{not-true, not-false}
@@ -12,11 +12,11 @@ use lib.Seq.{sets, length-sets}
 use borrow.Fn.Kinds.{In}
 use borrow.Fn.PlainCycle.{Measures, is, falls, and}
 use Rattle.distance.specs.Laws.{farthest}
-use Rattle.table.specs.Record.{recordOf, slot, children}
-use Rattle.search.specs.Walk.{Stands, Compared, isEntered, cardWithin, State, state, query, smallestTo, enteredFrom, after}
+use Rattle.table.specs.Record.{recordOf, slot}
+use Rattle.search.specs.Walk.{Stands, isEntered, cardWithin, State, state, query, smallestTo, enteredFrom, after}
 use Rattle.search.specs.declared.walk.Reached.{Reached}
 use Rattle.search.proofs.Steps
-use Rattle.search.proofs.Steps.{cases, slots-length, smallest-same, smallest-at-most}
+use Rattle.search.proofs.Steps.{cases, slots-length, smallest-more, smallest-same, smallest-at-most}
 use Rattle.search.proofs.walk.walk.Reads as walk
 use Rattle.search.proofs.walk.walk.Kinds as walk-kinds
 use Rattle.search.proofs.walk.+walk.Lts-walk as walk-lts
@@ -26,7 +26,7 @@ use Rattle.search.proofs.walk.child_count.Reads as child-count-reads
 use Rattle.search.proofs.walk.distances.Reads as distances-reads
 use Rattle.search.proofs.walk.enters.Reads as enters-reads
 use Rattle.search.proofs.walk.note.Reads as note-reads
-use Rattle.search.proofs.walk.smallest.Reads as smallest-reads
+use Rattle.search.proofs.walk.smaller.Reads as smaller-reads
 use Rattle.search.proofs.walk.+walk.{statement}
 use Rattle.search.proofs.walk.+walk.Tie.{close}
 
@@ -41,14 +41,15 @@ abbrev walk-below : ℕ → In 2 walk-kinds.ps
 walk-below t = and 2 walk-kinds.ps (falls 2 walk-kinds.ps _<_ μ-walk t) walk.Pre
 
 abbrev Inv-loop : walk-lts.InvT-loop
-Inv-loop t kind q radius list₀ s away bound left n ds found reached₀ k₀ list reached k =
+Inv-loop t kind q radius list₀ s away bound left n ds found reached₀ near₀ k₀ list reached near k =
     let Q = query t kind (q .readings) radius in
     (k ≤ n) × (length list ≡ length list₀)
     × (after Q list (reached .found) (reached .count) (Steps.restFrom Q (left - 1) s bound k)
     ≡ after Q list₀ (reached₀ .found) (reached₀ .count) (Steps.restFrom Q (left - 1) s bound 0))
+    × (near ≡ smallestTo k (λ j. getD ds j 0) farthest)
 
 abbrev μ-loop : walk-lts.MeasureT-loop
-μ-loop t kind q radius list₀ s away bound left n ds found reached₀ k₀ list reached k = n - k
+μ-loop t kind q radius list₀ s away bound left n ds found reached₀ near₀ k₀ list reached near k = n - k
 
 abbrev Known : ℕ → walk-lts.Claims
 Known t = (
@@ -60,14 +61,14 @@ Known t = (
   distances-reads.Learnt,
   note-reads.Asked,
   note-reads.Learnt,
-  smallest-reads.Asked,
-  smallest-reads.Learnt,
   bound-of-reads.Asked,
   bound-of-reads.Learnt,
   child-reads.Asked,
   child-reads.Learnt,
   walk-below t,
   walk.Post,
+  smaller-reads.Asked,
+  smaller-reads.Learnt,
 )
 
 module _ (τ : ℕ) where
@@ -112,7 +113,7 @@ module _ (τ : ℕ) where
       let R = recordOf (a .t .now) in
       let Q = query (a .t .now) (a .kind) (a .q .readings) (a .radius) in
       Steps.stays Q (a .list .now) (a .start .found) (a .start .count) _
-      (Steps.visit-out Q (a .left) (a .s) (a .bound) (c .before .before .if1 .left)
+      (Steps.visit-out Q (a .left) (a .s) (a .bound)
       (enters-is (c .before) ∙ not-true _ (c .if2 .taken)))
 
   child-count-requires : walk-lts.Need-child-count-requires (Known τ) (walk-at τ) walk.Post Inv-loop μ-loop
@@ -170,8 +171,8 @@ module _ (τ : ℕ) where
   note-requires c κs =
       (opened (c .before .before) .pre .1 .0 .1, fits (c .before .before) .0)
 
-  add-t23 : walk-lts.Need-add-t23 (Known τ) (walk-at τ) walk.Post Inv-loop μ-loop
-  add-t23 c =
+  add-t25 : walk-lts.Need-add-t25 (Known τ) (walk-at τ) walk.Post Inv-loop μ-loop
+  add-t25 c =
       let h = fits (c .before .before .before .before .before .before) .1 in search needs
 
   -- where the loop begins, this record is listed and counted, and all its children are left
@@ -200,8 +201,9 @@ module _ (τ : ℕ) where
       (cardWithin (recordOf (a .t .now) (a .s)) (a .away) (a .radius))
 
   loop-holds : walk-lts.Need-loop-holds (Known τ) (walk-at τ) walk.Post Inv-loop μ-loop
+  unfolding smallestTo
   loop-holds c =
-      (search needs, refl, refl)
+      (search needs, refl, refl, refl)
 
   mul-e : walk-lts.Need-mul-e (Known τ) (walk-at τ) walk.Post Inv-loop μ-loop
   mul-e c = search needs
@@ -209,15 +211,13 @@ module _ (τ : ℕ) where
   array-read-e : walk-lts.Need-array-read-e (Known τ) (walk-at τ) walk.Post Inv-loop μ-loop
   array-read-e c = search needs
 
-  smallest-requires : walk-lts.Need-smallest-requires (Known τ) (walk-at τ) walk.Post Inv-loop μ-loop
-  smallest-requires c κs = search needs
-
   mul-if3 : walk-lts.Need-mul-if3 (Known τ) (walk-at τ) walk.Post Inv-loop μ-loop
   mul-if3 c = search needs
 
   add-if3 : walk-lts.Need-add-if3 (Known τ) (walk-at τ) walk.Post Inv-loop μ-loop
   add-if3 c =
-      let small : c .smallest .result ≤ farthest = rw (c .smallest .ensures) (smallest-at-most _ _ _) in
+      let l = c .before .loop in
+      let small : l .near ≤ farthest = rw (l .inv .3) (smallest-at-most _ _ _) in
       search needs
 
   bound-of-requires : walk-lts.Need-bound-of-requires (Known τ) (walk-at τ) walk.Post Inv-loop μ-loop
@@ -225,10 +225,7 @@ module _ (τ : ℕ) where
 
   child-requires : walk-lts.Need-child-requires (Known τ) (walk-at τ) walk.Post Inv-loop μ-loop
   child-requires c κs =
-      (opened (looped (c .before .before .before .before .before)) .pre .1 .0 .1, omega arith)
-
-  sub-walk : walk-lts.Need-sub-walk (Known τ) (walk-at τ) walk.Post Inv-loop μ-loop
-  sub-walk c = search needs
+      (opened (looped (c .before .before .before)) .pre .1 .0 .1, omega arith)
 
   -- the loop's state and what is left lead to what the contract says
   on : (c : walk-lts.At-loop (Known τ) (walk-at τ) walk.Post Inv-loop μ-loop) →
@@ -241,80 +238,97 @@ module _ (τ : ℕ) where
   on c = c .loop .inv .2 ∙ begun (c .before .before)
 
   -- the two numbers of the loop's test are the definition's
-  tested : (c : walk-lts.After-smallest (Known τ) (walk-at τ) walk.Post Inv-loop μ-loop) →
-      let a = opened (looped (c .before .before)) .args in
+  tested : (c : walk-lts.In-loop (Known τ) (walk-at τ) walk.Post Inv-loop μ-loop) →
+      let a = opened (looped (c .before)) .args in
       let R = recordOf (a .t .now) in
       let Q = query (a .t .now) (a .kind) (a .q .readings) (a .radius) in
-      let k = c .before .before .loop .k in
-      (getD (c .before .before .before .before .before .before .before .before .distances .result) k 0
-      ≡ Steps.awayIn Q (slot (R (a .s)) k))
-      × (c .smallest .result ≡ smallestTo k (λ j. Steps.awayIn Q (slot (R (a .s)) j)) farthest)
+      let l = c .before .loop in
+      (getD (c .before .before .before .before .before .before .before .distances .result) (l .k) 0
+      ≡ Steps.awayIn Q (slot (R (a .s)) (l .k)))
+      × (l .near ≡ smallestTo (l .k) (λ j. Steps.awayIn Q (slot (R (a .s)) j)) farthest)
   tested c =
-      let a = opened (looped (c .before .before)) .args in
-      let R = recordOf (a .t .now) in
-      let Q = query (a .t .now) (a .kind) (a .q .readings) (a .radius) in
-      let k = c .before .before .loop .k in
-      let each = c .before .before .before .before .before .before .before .before .distances .ensures .each in (
-        each k (c .before .loop-test .taken),
-        c .smallest .ensures ∙ smallest-same k _ _ farthest (λ j h. each j (omega arith)),
+      let l = c .before .loop in
+      let each = c .before .before .before .before .before .before .before .distances .ensures .each in (
+        each (l .k) (c .loop-test .taken),
+        l .inv .3 ∙ smallest-same (l .k) _ _ farthest (λ j h. each j (omega arith)),
       )
 
-  each : (c : walk-lts.After-child (Known τ) (walk-at τ) walk.Post Inv-loop μ-loop) →
-      let a = opened (looped (c .before .before .before .before .before .before)) .args in
-      Compared (recordOf (a .t .now)) (a .kind) (a .q .readings) (a .s)
-      (looped (c .before .before .before .before .before .before) .child-count .result)
-      (c .before .before .before .before .before .before .before .before .before .before .before .before .distances .result)
-  each c = c .before .before .before .before .before .before .before .before .before .before .before .before .distances .ensures
+  -- the child's distance is the definition's
+  child-away : (c : walk-lts.After-child (Known τ) (walk-at τ) walk.Post Inv-loop μ-loop) →
+      let a = opened (looped (c .before .before .before .before)) .args in
+      let Q = query (a .t .now) (a .kind) (a .q .readings) (a .radius) in
+      getD (c .before .before .before .before .before .before .before .before .before .before .distances .result)
+      (c .before .before .before .before .loop .k)
+      0
+      ≡ Steps.awayIn Q (c .child .result)
+  child-away c =
+      let a = opened (looped (c .before .before .before .before)) .args in
+      let Q = query (a .t .now) (a .kind) (a .q .readings) (a .radius) in
+      tested (c .before .before .before) .0 ∙ ap (Steps.awayIn Q) (sym (c .child .ensures))
+
+  child-stands : (c : walk-lts.After-child (Known τ) (walk-at τ) walk.Post Inv-loop μ-loop) →
+      Stands (opened (looped (c .before .before .before .before)) .args .t .now) (c .child .result)
+  child-stands c =
+      let a = opened (looped (c .before .before .before .before)) .args in
+      let l = c .before .before .before .before .loop in
+      let p = opened (looped (c .before .before .before .before)) .pre .1 .0 in
+      let i = looped (c .before .before .before .before) .child-count .ensures .0 in
+      let k : l .k < recordOf (a .t .now) (a .s) .count = omega arith in
+      rw (c .child .ensures) (p .0 .stand (a .s) (l .k) (p .1) k)
+
+  enters-requires-2 : walk-lts.Need-enters-requires-2 (Known τ) (walk-at τ) walk.Post Inv-loop μ-loop
+  enters-requires-2 c κs =
+      (child-stands c, opened (looped (c .before .before .before .before)) .pre .1 .0 .2)
 
   -- the child is visited: its walk comes first of what is left
   visited : (c : walk-lts.After-child (Known τ) (walk-at τ) walk.Post Inv-loop μ-loop) →
-      let a = opened (looped (c .before .before .before .before .before .before)) .args in
-      let R = recordOf (a .t .now) in
+      let a = opened (looped (c .before .before .before .before)) .args in
       let Q = query (a .t .now) (a .kind) (a .q .readings) (a .radius) in
-      let k = c .before .before .before .before .before .before .loop .k in
+      let k = c .before .before .before .before .loop .k in
       Steps.restFrom Q (a .left - 1) (a .s) (a .bound) k
-      ≡ enteredFrom Q (a .left - 1) (c .child .result) (c .before .before .bound-of .result)
+      ≡ enteredFrom Q (a .left - 1) (c .child .result) (c .before .bound-of .result)
       ++ Steps.restFrom Q (a .left - 1) (a .s) (a .bound) (k + 1)
   visited c =
-      let a = opened (looped (c .before .before .before .before .before .before)) .args in
-      let R = recordOf (a .t .now) in
+      let a = opened (looped (c .before .before .before .before)) .args in
       let Q = query (a .t .now) (a .kind) (a .q .readings) (a .radius) in
-      let k = c .before .before .before .before .before .before .loop .k in
-      let e = tested (c .before .before .before .before) in
-      let p = opened (looped (c .before .before .before .before .before .before)) .pre .1 .0 in
-      let i = looped (c .before .before .before .before .before .before) .child-count .ensures .0 in
-      let one = few (looped (c .before .before .before .before .before .before)) in
-      Steps.rest-in Q (a .s) one (a .left - 1) (a .bound) k (c .child .result) (c .before .before .bound-of .result)
+      let k = c .before .before .before .before .loop .k in
+      let e = tested (c .before .before .before) in
+      let i = looped (c .before .before .before .before) .child-count .ensures .0 in
+      let one = few (looped (c .before .before .before .before)) in
+      let ds = c .before .before .before .before .before .before .before .before .before .before .distances in
+      Steps.rest-in Q (a .s) one (a .left - 1) (a .bound) k (c .child .result) (c .before .bound-of .result)
       (omega arith)
       (let x = e .0 in let y = e .1 in omega arith)
       (c .child .ensures)
-      (c .before .before .bound-of .ensures (a .kind) (a .q .readings) (each c))
+      (c .before .bound-of .ensures (a .kind) (a .q .readings) (ds .ensures))
+
+  sub-walk : walk-lts.Need-sub-walk (Known τ) (walk-at τ) walk.Post Inv-loop μ-loop
+  sub-walk c = search needs
 
   walk-requires : walk-lts.Need-walk-requires (Known τ) (walk-at τ) walk.Post Inv-loop μ-loop
   walk-requires c κs =
-      let a = opened (looped (c .before .before .before .before .before .before)) .args in
-      let R = recordOf (a .t .now) in
+      let h = c .before .before .before in
+      let a = opened (looped (h .before .before .before .before)) .args in
       let Q = query (a .t .now) (a .kind) (a .q .readings) (a .radius) in
-      let l = c .before .before .before .before .before .before .loop in
-      let p = opened (looped (c .before .before .before .before .before .before)) .pre in
-      let i = looped (c .before .before .before .before .before .before) .child-count .ensures .0 in
-      let k : l .k < R (a .s) .count = omega arith in
+      let l = h .before .before .before .before .loop in
+      let p = opened (looped (h .before .before .before .before)) .pre in
       let room =
-      rw (← visited c, on (c .before .before .before .before .before .before)) at
+      rw (← visited h, on (h .before .before .before .before)) at
       (Steps.room-first Q (l .list) (l .reached .found) (l .reached .count)
-      (enteredFrom Q (a .left - 1) (c .child .result) (c .before .before .bound-of .result))
+      (enteredFrom Q (a .left - 1) (h .child .result) (h .before .bound-of .result))
       (Steps.restFrom Q (a .left - 1) (a .s) (a .bound) (l .k + 1))) in
       let len : length (l .list) ≡ length (a .list .now) =
-      l .inv .1 ∙ as-long (c .before .before .before .before .before .before .before .before) in
-      let stands : Stands (a .t .now) (c .child .result) =
-      rw (c .child .ensures) (p .1 .0 .0 .stand (a .s) (l .k) (p .1 .0 .1) k) in
-      let away = tested (c .before .before .before .before) .0 ∙ ap (Steps.awayIn Q) (sym (c .child .ensures)) in (
+      l .inv .1 ∙ as-long (h .before .before .before .before .before .before) in
+      let some = looped (h .before .before .before .before) .before .before .before .if1 .left in (
         omega arith,
         (
-          (p .1 .0 .0, stands, p .1 .0 .2, away),
+          (p .1 .0 .0, child-stands h, p .1 .0 .2, child-away h),
           (omega arith, omega arith),
         ),
       )
+
+  smaller-requires : walk-lts.Need-smaller-requires (Known τ) (walk-at τ) walk.Post Inv-loop μ-loop
+  smaller-requires c κs = search needs
 
   add-k : walk-lts.Need-add-k (Known τ) (walk-at τ) walk.Post Inv-loop μ-loop
   add-k c = search needs
@@ -322,54 +336,95 @@ module _ (τ : ℕ) where
   loop-less : walk-lts.Need-loop-less (Known τ) (walk-at τ) walk.Post Inv-loop μ-loop
   loop-less c = search needs
 
-  -- a turn of the loop: either way, what was left at k is what the turn enters, and what is left at k + 1
+  -- the child is not entered: nothing of it comes before what is left
+  skipped : (c : walk-lts.Else4 (Known τ) (walk-at τ) walk.Post Inv-loop μ-loop) →
+      let h = c .before .before in
+      let a = opened (looped (h .before .before .before .before)) .args in
+      let Q = query (a .t .now) (a .kind) (a .q .readings) (a .radius) in
+      let k = h .before .before .before .before .loop .k in
+      Steps.restFrom Q (a .left - 1) (a .s) (a .bound) k ≡ Steps.restFrom Q (a .left - 1) (a .s) (a .bound) (k + 1)
+  skipped c =
+      let h = c .before .before in
+      let a = opened (looped (h .before .before .before .before)) .args in
+      let R = recordOf (a .t .now) in
+      let Q = query (a .t .now) (a .kind) (a .q .readings) (a .radius) in
+      let k = h .before .before .before .before .loop .k in
+      let b = h .before .bound-of .result in
+      let out =
+      ap (λ (z : ℕ). isEntered (R (h .child .result)) z (a .radius) b) (sym (child-away h))
+      ∙ sym (c .before .enters2 .ensures)
+      ∙ c .if4 .left in
+      visited h
+      ∙ ap (λ (z : List ℕ). z ++ Steps.restFrom Q (a .left - 1) (a .s) (a .bound) (k + 1))
+      (Steps.visit-out Q (a .left - 1) (h .child .result) b out)
+
+  -- a turn of the loop: whichever way, what was left at k is what the turn enters, and what is left at k + 1
   turned : (c : walk-lts.Joined3 (Known τ) (walk-at τ) walk.Post Inv-loop μ-loop) →
-      let a = opened (looped (c .before .before .before)) .args in
-      let R = recordOf (a .t .now) in
+      let a = opened (looped (c .before .before)) .args in
       let Q = query (a .t .now) (a .kind) (a .q .readings) (a .radius) in
-      let l = c .before .before .before .loop in
+      let l = c .before .before .loop in
+      let rest = Steps.restFrom Q (a .left - 1) (a .s) (a .bound) in
       (length (c .if3 .list) ≡ length (l .list))
-      × (after Q (c .if3 .list) (c .if3 .reached .found) (c .if3 .reached .count)
-      (Steps.restFrom Q (a .left - 1) (a .s) (a .bound) (l .k + 1))
-      ≡ after Q (l .list) (l .reached .found) (l .reached .count) (Steps.restFrom Q (a .left - 1) (a .s) (a .bound) (l .k)))
+      × (after Q (c .if3 .list) (c .if3 .reached .found) (c .if3 .reached .count) (rest (l .k + 1))
+      ≡ after Q (l .list) (l .reached .found) (l .reached .count) (rest (l .k)))
   turned c =
-      let a = opened (looped (c .before .before .before)) .args in
-      let R = recordOf (a .t .now) in
+      let a = opened (looped (c .before .before)) .args in
       let Q = query (a .t .now) (a .kind) (a .q .readings) (a .radius) in
-      let l = c .before .before .before .loop in
-      let rest = Steps.restFrom Q (a .left - 1) (a .s) (a .bound) (l .k + 1) in
+      let l = c .before .before .loop in
+      let rest = Steps.restFrom Q (a .left - 1) (a .s) (a .bound) in
+      let on-from = after Q (l .list) (l .reached .found) (l .reached .count) in
       let e = tested (c .before) in
-      let i = looped (c .before .before .before) .child-count .ensures .0 in
+      let i = looped (c .before .before) .child-count .ensures .0 in
+      let passed : c .if3 .list ≡ l .list → c .if3 .reached ≡ l .reached → rest (l .k) ≡ rest (l .k + 1)
+      → (length (c .if3 .list) ≡ length (l .list))
+      × (after Q (c .if3 .list) (c .if3 .reached .found) (c .if3 .reached .count) (rest (l .k + 1))
+      ≡ on-from (rest (l .k))) =
+      λ x y z. (
+        ap length x,
+        ap (λ (v : State). after Q (v .list) (v .found) (v .count) (rest (l .k + 1)))
+            (Steps.parts x (ap (λ (v : Reached). v .found) y) (ap (λ (v : Reached). v .count) y))
+            ∙ ap on-from (sym z),
+      ) in
       cases (c .if3 .came)
       (λ w.
-      let at-child : walk-lts.After-child (Known τ) (walk-at τ) walk.Post Inv-loop μ-loop =
+      let h : walk-lts.After-child (Known τ) (walk-at τ) walk.Post Inv-loop μ-loop =
       record {
-        before =
-            record { before = record { before = record { before = c .before; if3 = w .0 }; bound-of = w .1 }; walk-arg = w .2 };
-        child = w .3;
+        before = record { before = record { before = c .before; if3 = w .0 }; bound-of = w .1 };
+        child = w .2;
       } in
       let came : state (c .if3 .list) (c .if3 .reached .found) (c .if3 .reached .count)
-      ≡ after Q (l .list) (l .reached .found) (l .reached .count) (enteredFrom Q (a .left - 1) (w .3 .result) (w .1 .result)) =
-      Steps.parts (w .7) (ap (λ (z : Reached). z .found) (w .8)) (ap (λ (z : Reached). z .count) (w .8)) ∙ w .4 .ensures in (
-        ap (λ (z : State). length (z .list)) came ∙ Steps.after-length Q (l .list) (l .reached .found) (l .reached .count) _,
-        Steps.onward Q _ (c .if3 .list) (c .if3 .reached .found) (c .if3 .reached .count) rest came
-            ∙ sym (Steps.after-append Q (l .list) (l .reached .found) (l .reached .count) _ rest)
-            ∙ ap (after Q (l .list) (l .reached .found) (l .reached .count)) (sym (visited at-child)),
+      ≡ on-from (enteredFrom Q (a .left - 1) (w .2 .result) (w .1 .result)) =
+      Steps.parts (w .9) (ap (λ (v : Reached). v .found) (w .10)) (ap (λ (v : Reached). v .count) (w .10))
+      ∙ w .6 .ensures in (
+        ap (λ (v : State). length (v .list)) came
+            ∙ Steps.after-length Q (l .list) (l .reached .found) (l .reached .count) _,
+        Steps.onward Q _ (c .if3 .list) (c .if3 .reached .found) (c .if3 .reached .count) (rest (l .k + 1)) came
+            ∙ sym (Steps.after-append Q (l .list) (l .reached .found) (l .reached .count) _ (rest (l .k + 1)))
+            ∙ ap on-from (sym (visited h)),
       ))
-      (λ w. (
-        ap length (w .1),
-        ap (λ (z : State). after Q (z .list) (z .found) (z .count) rest)
-            (Steps.parts (w .1) (ap (λ (z : Reached). z .found) (w .2)) (ap (λ (z : Reached). z .count) (w .2)))
-            ∙ ap (after Q (l .list) (l .reached .found) (l .reached .count))
-            (sym
-            (Steps.rest-out Q (a .s) (few (looped (c .before .before .before))) (a .left - 1) (a .bound) (l .k) (omega arith)
-            (let x = e .0 in let y = e .1 in omega arith))),
-      ))
+      (λ v. cases v
+      (λ w.
+      let h : walk-lts.After-child (Known τ) (walk-at τ) walk.Post Inv-loop μ-loop =
+      record {
+        before = record { before = record { before = c .before; if3 = w .0 }; bound-of = w .1 };
+        child = w .2;
+      } in
+      passed (w .5) (w .6) (skipped record { before = record { before = h; enters2 = w .3 }; if4 = w .4 }))
+      (λ w.
+      passed (w .1) (w .2)
+      (Steps.rest-out Q (a .s) (few (looped (c .before .before))) (a .left - 1) (a .bound) (l .k) (omega arith)
+      (let x = e .0 in let y = e .1 in omega arith))))
 
   loop-again : walk-lts.Need-loop-again (Known τ) (walk-at τ) walk.Post Inv-loop μ-loop
   loop-again c =
-      let t = turned c in
-      (search needs, t .0 ∙ c .before .before .before .loop .inv .1, t .1 ∙ c .before .before .before .loop .inv .2)
+      let t = turned (c .before) in
+      let l = c .before .before .before .loop in
+      let ds = c .before .before .before .before .before .before .before .before .before .distances .result in (
+        search needs,
+        t .0 ∙ l .inv .1,
+        t .1 ∙ l .inv .2,
+        c .smaller .ensures ∙ smallest-more (l .k) (λ j. getD ds j 0) farthest _ (l .inv .3),
+      )
 
   same-length : walk-lts.Need-same-length (Known τ) (walk-at τ) walk.Post Inv-loop μ-loop
   same-length c =
@@ -394,17 +449,18 @@ pub +walk-spec : {M : Type 1} → statement M
     (child-count-requires τ)
     (distances-requires τ)
     (note-requires τ)
-    (add-t23 τ)
+    (add-t25 τ)
     (loop-holds τ)
     (mul-e τ)
     (array-read-e τ)
-    (smallest-requires τ)
     (mul-if3 τ)
     (add-if3 τ)
     (bound-of-requires τ)
     (child-requires τ)
+    (enters-requires-2 τ)
     (sub-walk τ)
     (walk-requires τ)
+    (smaller-requires τ)
     (add-k τ)
     (loop-less τ)
     (loop-again τ)
