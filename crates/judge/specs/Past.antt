@@ -2,8 +2,10 @@
 use Prim.Native.Nat.{ℕ, zero, suc, _+_, _-_, _*_, _^_, _≤_, _<_}
 use mathlib.Core.Path.{_≡_, refl, sym, ap, _∙_}
 use mathlib.Core.Bool.{Bool, true, false, _&&_}
+use mathlib.Core.List.{List, [], _∷_}
 use native.Mathlib.Omega.{arith}
 use lib.Dec.{leb, eqb}
+use lib.ListN.{getD}
 use borrow.Author.Tests.{eq-eqb, eqb-true, le-leb, leb-true, leb-false}
 use Rattle.places.specs.Choice.{pick, and-left, and-right, and-both, same-test}
 use Rattle.places.specs.Test.{all-at, at-all}
@@ -17,26 +19,69 @@ use Rattle.judge.specs.WellFormed.{isPast, pastCount}
 unfoldable pub floorOf : ℕ → ℕ
 floorOf c = 2 ^ 64 - 65536 ^ c
 
--- what a test of c finds
-pub floor-0 : (c : ℕ) → c ≡ 0 → 18446744073709551615 ≡ floorOf c
-unfolding floorOf
-floor-0 c e = rw e refl
+-- by the count of children: the floor of the first four child slots, and of the last four
+abbrev pub firstFloors : List ℕ
+firstFloors =
+    18446744073709551615
+    ∷ 18446744073709486080
+    ∷ 18446744069414584320
+    ∷ 18446462598732840960
+    ∷ 0
+    ∷ 0
+    ∷ 0
+    ∷ 0
+    ∷ 0
+    ∷ []
 
-pub floor-1 : (c : ℕ) → c ≡ 1 → 18446744073709486080 ≡ floorOf c
-unfolding floorOf
-floor-1 c e = rw e refl
+abbrev pub lastFloors : List ℕ
+lastFloors =
+    18446744073709551615
+    ∷ 18446744073709551615
+    ∷ 18446744073709551615
+    ∷ 18446744073709551615
+    ∷ 18446744073709551615
+    ∷ 18446744073709486080
+    ∷ 18446744069414584320
+    ∷ 18446462598732840960
+    ∷ 0
+    ∷ []
 
-pub floor-2 : (c : ℕ) → c ≡ 2 → 18446744069414584320 ≡ floorOf c
-unfolding floorOf
-floor-2 c e = rw e refl
+to-eight : (P : ℕ → Type 0) → P 0 → P 1 → P 2 → P 3 → P 4 → P 5 → P 6 → P 7 → P 8 → (c : ℕ) → c ≤ 8 → P c
+to-eight P a b c d e f g h i zero l = a
+to-eight P a b c d e f g h i (suc zero) l = b
+to-eight P a b c d e f g h i (suc (suc zero)) l = c
+to-eight P a b c d e f g h i (suc (suc (suc zero))) l = d
+to-eight P a b c d e f g h i (suc (suc (suc (suc zero)))) l = e
+to-eight P a b c d e f g h i (suc (suc (suc (suc (suc zero))))) l = f
+to-eight P a b c d e f g h i (suc (suc (suc (suc (suc (suc zero)))))) l = g
+to-eight P a b c d e f g h i (suc (suc (suc (suc (suc (suc (suc zero))))))) l = h
+to-eight P a b c d e f g h i (suc (suc (suc (suc (suc (suc (suc (suc zero)))))))) l = i
+to-eight P a b c d e f g h i (suc (suc (suc (suc (suc (suc (suc (suc (suc n))))))))) l = absurd (omega arith)
 
-pub floor-3 : (c : ℕ) → c ≡ 3 → 18446462598732840960 ≡ floorOf c
+first-floor : (c : ℕ) → c ≤ 8 → getD firstFloors c 0 ≡ floorOf c
 unfolding floorOf
-floor-3 c e = rw e refl
+first-floor =
+    to-eight (λ c. getD firstFloors c 0 ≡ 2 ^ 64 - 65536 ^ c) refl refl refl refl refl refl refl refl refl
 
-pub floor-4 : (c : ℕ) → c ≡ 4 → 0 ≡ floorOf c
+no-floor : (c : ℕ) → c ≤ 8 → 4 ≤ c → floorOf c ≡ 0
 unfolding floorOf
-floor-4 c e = rw e refl
+no-floor =
+    to-eight
+    (λ c. 4 ≤ c → 2 ^ 64 - 65536 ^ c ≡ 0)
+    (λ h. absurd (omega arith))
+    (λ h. absurd (omega arith))
+    (λ h. absurd (omega arith))
+    (λ h. absurd (omega arith))
+    (λ h. refl)
+    (λ h. refl)
+    (λ h. refl)
+    (λ h. refl)
+    (λ h. refl)
+
+last-floor : (c : ℕ) → c ≤ 8 → getD lastFloors c 0 ≡ floorOf (c - 4)
+unfolding floorOf
+last-floor =
+    to-eight (λ c. getD lastFloors c 0 ≡ 2 ^ 64 - 65536 ^ (c - 4)) refl refl refl refl refl refl refl refl refl
 
 -- the number that has the parts p
 abbrev four : (ℕ → ℕ) → ℕ
@@ -82,41 +127,42 @@ module _ (p : ℕ → ℕ) (fit : (i : ℕ) → i < 4 → p i < 65536) where
   abbrev f3 : p 3 < 65536
   f3 = fit 3 (omega arith)
 
-  floor-full : (c : ℕ) → c ≤ 4 → floorOf c ≤ four p → (i : ℕ) → i < 4 → Full p c i
+  floor-full : (c : ℕ) → c ≤ 8 → floorOf c ≤ four p → (i : ℕ) → i < 4 → Full p c i
   floor-full zero b h =
-      let t = top-0 (p 0) (p 1) (p 2) (p 3) f0 f1 f2 f3 (omega (arith, floor-0 0 refl)) in
+      let t = top-0 (p 0) (p 1) (p 2) (p 3) f0 f1 f2 f3 (omega (arith, first-floor 0 (omega arith))) in
       each (Full p 0) (λ l. t .0) (λ l. t .1) (λ l. t .2) (λ l. t .3)
   floor-full (suc zero) b h =
-      let t = top-1 (p 0) (p 1) (p 2) (p 3) f0 f1 f2 f3 (omega (arith, floor-1 1 refl)) in
+      let t = top-1 (p 0) (p 1) (p 2) (p 3) f0 f1 f2 f3 (omega (arith, first-floor 1 (omega arith))) in
       each (Full p 1) (λ l. absurd (omega arith)) (λ l. t .0) (λ l. t .1) (λ l. t .2)
   floor-full (suc (suc zero)) b h =
-      let t = top-2 (p 0) (p 1) (p 2) (p 3) f0 f1 f2 f3 (omega (arith, floor-2 2 refl)) in
+      let t = top-2 (p 0) (p 1) (p 2) (p 3) f0 f1 f2 f3 (omega (arith, first-floor 2 (omega arith))) in
       each (Full p 2) (λ l. absurd (omega arith)) (λ l. absurd (omega arith)) (λ l. t .0) (λ l. t .1)
   floor-full (suc (suc (suc zero))) b h =
-      let t = top-3 (p 0) (p 1) (p 2) (p 3) f0 f1 f2 f3 (omega (arith, floor-3 3 refl)) in
+      let t = top-3 (p 0) (p 1) (p 2) (p 3) f0 f1 f2 f3 (omega (arith, first-floor 3 (omega arith))) in
       each (Full p 3) (λ l. absurd (omega arith)) (λ l. absurd (omega arith)) (λ l. absurd (omega arith)) (λ l. t)
   floor-full (suc (suc (suc (suc c)))) b h = λ i below l. absurd (omega arith)
 
-  full-floor : (c : ℕ) → c ≤ 4 → ((i : ℕ) → i < 4 → Full p c i) → floorOf c ≤ four p
+  full-floor : (c : ℕ) → c ≤ 8 → ((i : ℕ) → i < 4 → Full p c i) → floorOf c ≤ four p
   full-floor zero b full =
       let e0 = full 0 (omega arith) (omega arith) in
       let e1 = full 1 (omega arith) (omega arith) in
       let e2 = full 2 (omega arith) (omega arith) in
       let e3 = full 3 (omega arith) (omega arith) in
-      omega (arith, e0, e1, e2, e3, floor-0 0 refl)
+      omega (arith, e0, e1, e2, e3, first-floor 0 (omega arith))
   full-floor (suc zero) b full =
       let e1 = full 1 (omega arith) (omega arith) in
       let e2 = full 2 (omega arith) (omega arith) in
       let e3 = full 3 (omega arith) (omega arith) in
-      omega (arith, e1, e2, e3, floor-1 1 refl)
+      omega (arith, e1, e2, e3, first-floor 1 (omega arith))
   full-floor (suc (suc zero)) b full =
       let e2 = full 2 (omega arith) (omega arith) in
       let e3 = full 3 (omega arith) (omega arith) in
-      omega (arith, e2, e3, floor-2 2 refl)
+      omega (arith, e2, e3, first-floor 2 (omega arith))
   full-floor (suc (suc (suc zero))) b full =
       let e3 = full 3 (omega arith) (omega arith) in
-      omega (arith, e3, floor-3 3 refl)
-  full-floor (suc (suc (suc (suc c)))) b full = omega (arith, floor-4 (suc (suc (suc (suc c)))) (omega arith))
+      omega (arith, e3, first-floor 3 (omega arith))
+  full-floor (suc (suc (suc (suc c)))) b full =
+      omega (arith, no-floor (suc (suc (suc (suc c)))) b (omega arith))
 
 -- ---- the child slots
 
@@ -172,50 +218,34 @@ module _ (r : Record) (fit : (i : ℕ) → i < 8 → slot r i < 65536) where
           ap (slot r) same ∙ l (i - 4) (omega arith) (omega arith)
       go false e = f i (leb-false 4 i e)
 
-  -- ---- what the code finds
-
-  -- fewer than four children
-  pub past-low :
-      r .count < 4
-      → leb (floorOf (r .count)) (wordOf (r .slots) 0) && leb (floorOf 0) (wordOf (r .slots) 1) ≡ pastCount r
-  past-low few =
+  -- what the code finds
+  pub past-told :
+      r .count ≤ 8
+      → leb (getD firstFloors (r .count) 0) (wordOf (r .slots) 0)
+      && leb (getD lastFloors (r .count) 0) (wordOf (r .slots) 1)
+      ≡ pastCount r
+  past-told few =
       let firsts = leb (floorOf (r .count)) (wordOf (r .slots) 0) in
-      let lasts = leb (floorOf 0) (wordOf (r .slots) 1) in
-      same-test
+      let lasts = leb (floorOf (r .count - 4)) (wordOf (r .slots) 1) in
+      (λ i.
+      leb (first-floor (r .count) few i) (wordOf (r .slots) 0)
+      && leb (last-floor (r .count) few i) (wordOf (r .slots) 1))
+      ∙ same-test
       (firsts && lasts)
       (pastCount r)
       (λ h.
       let one = leb-true (floorOf (r .count)) (wordOf (r .slots) 0) (and-left firsts lasts h) in
-      let two = leb-true (floorOf 0) (wordOf (r .slots) 1) (and-right firsts lasts h) in
+      let two = leb-true (floorOf (r .count - 4)) (wordOf (r .slots) 1) (and-right firsts lasts h) in
       past-all
       (halves
-      (floor-full (slot r) fit-first (r .count) (omega arith) (rw first-word at one))
-      (λ i b l. floor-full last fit-last 0 (omega arith) (rw last-word at two) i b (omega arith))))
+      (floor-full (slot r) fit-first (r .count) few (rw first-word at one))
+      (floor-full last fit-last (r .count - 4) (omega arith) (rw last-word at two))))
       (λ h.
       let past = all-past h in
       and-both firsts lasts
       (le-leb (floorOf (r .count)) (wordOf (r .slots) 0)
-      (rw first-word (full-floor (slot r) fit-first (r .count) (omega arith) (λ i b. past i (omega arith)))))
-      (le-leb (floorOf 0) (wordOf (r .slots) 1)
-      (rw last-word
-      (full-floor last fit-last 0 (omega arith) (λ i b l. past (i + 4) (omega arith) (omega arith))))))
-
-  -- four or more
-  pub past-high :
-      4 ≤ r .count → r .count ≤ 8 → leb (floorOf (r .count - 4)) (wordOf (r .slots) 1) ≡ pastCount r
-  past-high some few =
-      same-test
-      (leb (floorOf (r .count - 4)) (wordOf (r .slots) 1))
-      (pastCount r)
-      (λ h.
-      let two = leb-true (floorOf (r .count - 4)) (wordOf (r .slots) 1) h in
-      past-all
-      (halves
-      (λ i b l. absurd (omega arith))
-      (floor-full last fit-last (r .count - 4) (omega arith) (rw last-word at two))))
-      (λ h.
-      let past = all-past h in
-      le-leb (floorOf (r .count - 4)) (wordOf (r .slots) 1)
+      (rw first-word (full-floor (slot r) fit-first (r .count) few (λ i b. past i (omega arith)))))
+      (le-leb (floorOf (r .count - 4)) (wordOf (r .slots) 1)
       (rw last-word
       (full-floor last fit-last (r .count - 4) (omega arith)
-      (λ i b l. past (i + 4) (omega arith) (omega arith)))))
+      (λ i b l. past (i + 4) (omega arith) (omega arith))))))

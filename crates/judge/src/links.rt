@@ -6,7 +6,7 @@ ghost use lib.ListN.{length};
 ghost use Rattle.table.specs.Record.{recordOf};
 ghost use Rattle.judge.specs.WellFormed.{isFilled, pastCount};
 ghost use Rattle.judge.specs.Counted.{allLinked};
-ghost use Rattle.judge.specs.Past.{floorOf};
+ghost use Rattle.judge.specs.Past.{firstFloors, lastFloors};
 ghost use Rattle.judge.specs.Seen.{Passed, Ended};
 use table::NO_SLOT;
 
@@ -16,36 +16,50 @@ const KINDS: u8 = 2;
 // Most children of a record.
 const MOST: usize = 8;
 
-// The least number whose 16-bit parts from part c on, of four, are 65,535.
-fn floor(c: usize) -> u64
-    requires { ⌜ c ≤ 4 ⌝ }
-    ensures { λ r. ⌜ r ≡ floorOf c ⌝ }
+// By the count of children: the least number that the first four child slots make if those past the count are 65,535.
+fn first_floors() -> [u64; 9]
+    ensures { λ r. ⌜ r ≡ firstFloors ⌝ }
 {
-    if c == 0 {
-        return 0xffffffffffffffff;
-    }
-    if c == 1 {
-        return 0xffffffffffff0000;
-    }
-    if c == 2 {
-        return 0xffffffff00000000;
-    }
-    if c == 3 { 0xffff000000000000 } else { 0 }
+    [
+        0xffffffffffffffff,
+        0xffffffffffff0000,
+        0xffffffff00000000,
+        0xffff000000000000,
+        0,
+        0,
+        0,
+        0,
+        0,
+    ]
 }
 
-// Are the child slots past the count 65,535? Four at a time, so that the count is no loop's end, which would be hard to
-// predict.
-fn past_ok(t: &[u8], s: usize, count: usize) -> bool
+// The same of the last four.
+fn last_floors() -> [u64; 9]
+    ensures { λ r. ⌜ r ≡ lastFloors ⌝ }
+{
+    [
+        0xffffffffffffffff,
+        0xffffffffffffffff,
+        0xffffffffffffffff,
+        0xffffffffffffffff,
+        0xffffffffffffffff,
+        0xffffffffffff0000,
+        0xffffffff00000000,
+        0xffff000000000000,
+        0,
+    ]
+}
+
+// Are the child slots past the count 65,535? Four at a time and by a row of floors, so that the count is no loop's end and
+// decides no branch, which would be hard to predict.
+fn past_ok(t: &[u8], s: usize, count: usize, first: &[u64; 9], last: &[u64; 9]) -> bool
     requires { ⌜ (s * 64 + 64 ≤ length (now t)) × (count ≡ recordOf (now t) s .count) × (count ≤ 8) ⌝ }
+    requires { ⌜ (now first ≡ firstFloors) × (now last ≡ lastFloors) ⌝ }
     ensures { λ r. ⌜ r ≡ pastCount (recordOf (now (t .entry)) s) ⌝ }
 {
-    let low = table::four_slots(t, s, 0);
-    let high = table::four_slots(t, s, 1);
-    if count < 4 {
-        (floor(count) <= low) & (floor(0) <= high)
-    } else {
-        floor(count - 4) <= high
-    }
+    let some = first[count] <= table::four_slots(t, s, 0);
+    let others = last[count] <= table::four_slots(t, s, 1);
+    some & others
 }
 
 // Is each child in the table, does it name s as its parent, and is it younger than the one before it, the first than
@@ -73,7 +87,16 @@ fn children_ok(t: &[u8], n: usize, s: usize, count: usize, timestamp: u32) -> bo
 }
 
 // Has the used record in slot s every field as it should be, and each of its children linked to it?
-fn record_ok(t: &[u8], n: usize, s: usize, kind: u8, count: u8) -> bool
+fn record_ok(
+    t: &[u8],
+    n: usize,
+    s: usize,
+    kind: u8,
+    count: u8,
+    first: &[u64; 9],
+    last: &[u64; 9],
+) -> bool
+    requires { ⌜ (now first ≡ firstFloors) × (now last ≡ lastFloors) ⌝ }
     requires { ⌜ (n * 64 ≤ length (now t)) × (s < n) × (1 ≤ recordOf (now t) s .card)
         × (kind ≡ recordOf (now t) s .kind) × (count ≡ recordOf (now t) s .count) ⌝ }
     ensures { λ r. ⌜ r ≡ isFilled (recordOf (now (t .entry)) s) && allLinked n (recordOf (now (t .entry))) s ⌝ }
@@ -82,7 +105,7 @@ fn record_ok(t: &[u8], n: usize, s: usize, kind: u8, count: u8) -> bool
     if (timestamp == 0) | (kind == 0) | (kind > KINDS) | (count as usize > MOST) {
         return false;
     }
-    past_ok(t, s, count as usize) && children_ok(t, n, s, count as usize, timestamp)
+    past_ok(t, s, count as usize, first, last) && children_ok(t, n, s, count as usize, timestamp)
 }
 
 // What a pass has seen of the records before a slot: whether all of them fit, the kind of the last used one, how many
@@ -96,7 +119,8 @@ pub struct Seen {
 }
 
 // What the pass has seen, with the record in slot s besides.
-fn look(t: &[u8], n: usize, s: usize, seen: Seen) -> Seen
+fn look(t: &[u8], n: usize, s: usize, seen: Seen, first: &[u64; 9], last: &[u64; 9]) -> Seen
+    requires { ⌜ (now first ≡ firstFloors) × (now last ≡ lastFloors) ⌝ }
     requires { ⌜ (n * 64 ≤ length (now t)) × (n ≤ 1024) × (s < n) × Passed n (recordOf (now t)) s seen ⌝ }
     ensures { λ r. ⌜ Passed n (recordOf (now (t .entry))) (s + 1) r ⌝ }
 {
@@ -114,7 +138,8 @@ fn look(t: &[u8], n: usize, s: usize, seen: Seen) -> Seen
     let root = table::parent_of(t, s) == NO_SLOT;
     Seen {
         fit: seen.fit
-            & (((seen.kind == 0) | (seen.kind == kind)) && record_ok(t, n, s, kind, count)),
+            & (((seen.kind == 0) | (seen.kind == kind))
+                && record_ok(t, n, s, kind, count, first, last)),
         kind,
         used: seen.used + 1,
         roots: seen.roots + root as usize,
@@ -127,6 +152,8 @@ pub fn links(t: &[u8], n: usize) -> Seen
     requires { ⌜ (n * 64 ≤ length (now t)) × (n ≤ 1024) ⌝ }
     ensures { λ r. ⌜ Ended n (recordOf (now (t .entry))) r ⌝ }
 {
+    let first = first_floors();
+    let last = last_floors();
     let mut seen = Seen {
         fit: true,
         kind: 0,
@@ -136,7 +163,7 @@ pub fn links(t: &[u8], n: usize) -> Seen
     };
     let mut s = 0;
     while s < n {
-        seen = look(t, n, s, seen);
+        seen = look(t, n, s, seen, &first, &last);
         if !seen.fit {
             return seen;
         }

@@ -2,6 +2,7 @@
 use Prim.Native.Nat.{ℕ, _≤_, _-_}
 use mathlib.Core.Path.{_≡_, subst}
 use Rattle.table.specs.Record.{recordOf}
+use Rattle.judge.specs.Past.{firstFloors, lastFloors}
 use Rattle.judge.specs.Seen.{Passed, passed-none, ended-whole, ended-early}
 use native.Mathlib.Omega.{arith}
 use borrow.Author.Needs.{needs}
@@ -10,27 +11,41 @@ use Rattle.judge.proofs.links.links.Statement.{statement}
 use Rattle.judge.proofs.links.links.Tie as tie
 
 abbrev Inv-loop : tie.InvT-loop
-Inv-loop t n seen₀ s₀ seen s = (s ≤ n) × Passed n (recordOf t) s seen
+Inv-loop t n first last seen₀ s₀ seen s =
+    (s ≤ n) × Passed n (recordOf t) s seen × (first ≡ firstFloors) × (last ≡ lastFloors)
 
 abbrev μ-loop : tie.MeasureT-loop
-μ-loop t n seen₀ s₀ seen s = n - s
+μ-loop t n first last seen₀ s₀ seen s = n - s
+
+first-floors-requires : tie.Need-first-floors-requires Inv-loop μ-loop
+first-floors-requires c κs = search needs
+
+last-floors-requires : tie.Need-last-floors-requires Inv-loop μ-loop
+last-floors-requires c κs = search needs
 
 loop-holds : tie.Need-loop-holds Inv-loop μ-loop
-loop-holds c = (omega arith, passed-none (c .before .args .n) (recordOf (c .before .args .t .now)))
+loop-holds c =
+    let a = c .before .before .before .args in (
+      omega arith,
+      passed-none (a .n) (recordOf (a .t .now)),
+      c .before .first-floors .ensures,
+      c .last-floors .ensures,
+    )
 
 look-requires : tie.Need-look-requires Inv-loop μ-loop
 look-requires c κs = search needs
 
 returns : tie.Need-returns Inv-loop μ-loop
 returns c =
-    let turn = c .before .before .before .before in
-    let a = turn .before .before .args in
+    let within = c .before .before .before .before .before in
+    let turn = within .before in
+    let a = turn .before .before .before .before .args in
     ended-early
     (a .n)
     (recordOf (a .t .now))
     (c .before .before .look .result)
     (turn .loop .s)
-    (omega (arith, c .before .before .before .loop-test))
+    (omega (arith, within .loop-test))
     (c .before .before .look .ensures)
     (not-true (c .before .before .look .result .fit) (c .if1 .taken))
 
@@ -45,7 +60,7 @@ loop-again c = search needs
 
 returns-2 : tie.Need-returns-2 Inv-loop μ-loop
 returns-2 c =
-    let a = c .before .before .before .args in
+    let a = c .before .before .before .before .before .args in
     let seen = c .before .loop .seen in
     let end : c .before .loop .s ≡ a .n = omega arith in
     ended-whole (a .n) (recordOf (a .t .now)) seen
@@ -54,4 +69,15 @@ returns-2 c =
 pub links-spec : {M : Type 1} → statement M
 links-spec =
     tie.close
-    (tie.spec Inv-loop μ-loop loop-holds look-requires returns add-s loop-less loop-again returns-2)
+    (tie.spec
+    Inv-loop
+    μ-loop
+    first-floors-requires
+    last-floors-requires
+    loop-holds
+    look-requires
+    returns
+    add-s
+    loop-less
+    loop-again
+    returns-2)

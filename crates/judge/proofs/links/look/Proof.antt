@@ -1,5 +1,6 @@
 -- `judge::links::look` meets its contract: a record without card adds whether it is free, any other its own numbers.
 -- Assumes nothing.
+use Prim.Native.Nat.{_≤_}
 use mathlib.Core.Path.{sym, ap, _∙_}
 use mathlib.Core.Bool.{Bool, _&&_}
 use mathlib.Core.Logic.{⊎-elim}
@@ -27,7 +28,7 @@ returns c =
     (recordOf (b .args .t .now))
     (b .args .s)
     (b .args .seen)
-    (b .pre .3)
+    (b .pre .1 .3)
     (c .is-free .result)
     (sym (c .before .before .card-of .ensures) ∙ c .before .if1 .taken)
     (told (b .args .t .now) (b .args .s) (c .is-free .result) (c .is-free .ensures))
@@ -42,28 +43,35 @@ parent-of-requires : tie.Need-parent-of-requires
 parent-of-requires c κs = search needs
 
 record-ok-requires : tie.Need-record-ok-requires
-record-ok-requires c κs = search needs
-
-add-t44 : tie.Need-add-t44
-add-t44 c =
-    let b = c .before .before .before .before .before .before .before in
-    let most = passed-most (b .args .n) (recordOf (b .args .t .now)) (b .args .s) (b .args .seen) (b .pre .3) in
-    omega (arith, most .0, b .pre .1, b .pre .2)
-
-cast-t47 : tie.Need-cast-t47
-cast-t47 c = search needs
+record-ok-requires c κs =
+    let counted = c .before .before in
+    let kinded = counted .before in
+    let carded = kinded .before .before in
+    let b = carded .before .before in
+    let some : 1 ≤ recordOf (b .args .t .now) (b .args .s) .card =
+    omega (arith, carded .card-of .ensures, kinded .before .if1 .left) in
+    (b .pre .0, (b .pre .1 .0, b .pre .1 .2, some, kinded .kind-of .ensures, counted .count-of .ensures))
 
 add-t48 : tie.Need-add-t48
 add-t48 c =
     let b = c .before .before .before .before .before .before .before in
-    let most = passed-most (b .args .n) (recordOf (b .args .t .now)) (b .args .s) (b .args .seen) (b .pre .3) in
-    omega (arith, most .1, b .pre .1, b .pre .2, byte-most (eqb (c .before .parent-of .result) 65535))
+    let most = passed-most (b .args .n) (recordOf (b .args .t .now)) (b .args .s) (b .args .seen) (b .pre .1 .3) in
+    omega (arith, most .0, b .pre .1 .1, b .pre .1 .2)
 
 cast-t51 : tie.Need-cast-t51
 cast-t51 c = search needs
 
 add-t52 : tie.Need-add-t52
-add-t52 c = search needs
+add-t52 c =
+    let b = c .before .before .before .before .before .before .before in
+    let most = passed-most (b .args .n) (recordOf (b .args .t .now)) (b .args .s) (b .args .seen) (b .pre .1 .3) in
+    omega (arith, most .1, b .pre .1 .1, b .pre .1 .2, byte-most (eqb (c .before .parent-of .result) 65535))
+
+cast-t55 : tie.Need-cast-t55
+cast-t55 c = search needs
+
+add-t56 : tie.Need-add-t56
+add-t56 c = search needs
 
 returns-2 : tie.Need-returns-2
 returns-2 c =
@@ -79,8 +87,8 @@ returns-2 c =
     R
     (b .args .s)
     (b .args .seen)
-    (b .pre .3)
-    (c .if2 .t30)
+    (b .pre .1 .3)
+    (c .if2 .t32)
     (kinded .kind-of .result)
     (counted .count-of .result)
     (hung .parent-of .result)
@@ -105,9 +113,9 @@ look-spec =
     count-of-requires
     parent-of-requires
     record-ok-requires
-    add-t44
-    cast-t47
     add-t48
     cast-t51
     add-t52
+    cast-t55
+    add-t56
     returns-2)

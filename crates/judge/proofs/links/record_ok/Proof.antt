@@ -22,8 +22,8 @@ returns c =
     (b .args .kind)
     (b .args .count)
     (c .before .timestamp-of .ensures)
-    (b .pre .3)
-    (b .pre .4)
+    (b .pre .1 .3)
+    (b .pre .1 .4)
     (allLinked (b .args .n) (recordOf (b .args .t .now)) (b .args .s))
     (c .if1 .taken)
 
@@ -31,14 +31,14 @@ past-ok-requires : tie.Need-past-ok-requires
 past-ok-requires c κs =
     let b = c .before .before .before in
     let p = plain (c .before .timestamp-of .result) (b .args .kind) (b .args .count) (c .if1 .left) in
-    (omega arith, b .pre .4, p .few)
+    ((omega arith, b .pre .1 .4, p .few), b .pre .0)
 
 children-ok-requires : tie.Need-children-ok-requires
 children-ok-requires c κs =
     let timed = c .before .before .before in
     let b = timed .before .before in
     let p = plain (timed .timestamp-of .result) (b .args .kind) (b .args .count) (c .before .before .if1 .left) in
-    (b .pre .0, b .pre .1, b .pre .4, p .few, timed .timestamp-of .ensures)
+    (b .pre .1 .0, b .pre .1 .1, b .pre .1 .4, p .few, timed .timestamp-of .ensures)
 
 returns-2 : tie.Need-returns-2
 returns-2 c =
@@ -50,12 +50,12 @@ returns-2 c =
     (b .args .kind)
     (b .args .count)
     (timed .timestamp-of .ensures)
-    (b .pre .3)
-    (b .pre .4)
+    (b .pre .1 .3)
+    (b .pre .1 .4)
     (allLinked (b .args .n) (recordOf (b .args .t .now)) (b .args .s))
     true
     (c .children-ok .result)
-    (b .pre .2)
+    (b .pre .1 .2)
     (plain (timed .timestamp-of .result) (b .args .kind) (b .args .count) (c .before .before .before .if1 .left))
     (sym (c .before .if2 .taken) ∙ c .before .before .past-ok .ensures)
     (c .children-ok .ensures)
@@ -71,12 +71,12 @@ returns-3 c =
     (b .args .kind)
     (b .args .count)
     (timed .timestamp-of .ensures)
-    (b .pre .3)
-    (b .pre .4)
+    (b .pre .1 .3)
+    (b .pre .1 .4)
     (allLinked (b .args .n) (recordOf (b .args .t .now)) (b .args .s))
     false
     (allLinked (b .args .n) (recordOf (b .args .t .now)) (b .args .s))
-    (b .pre .2)
+    (b .pre .1 .2)
     (plain (timed .timestamp-of .result) (b .args .kind) (b .args .count) (c .before .before .if1 .left))
     (sym (c .if2 .left) ∙ c .before .past-ok .ensures)
     refl
