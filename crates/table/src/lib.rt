@@ -4,7 +4,10 @@ pub mod refusal;
 mod size;
 mod write;
 
+pub use read::away_from;
 pub use read::card_of;
+pub use read::child_of;
+pub use read::children_of;
 pub use read::count_of;
 pub use read::four_slots;
 pub use read::is_free;

@@ -3,6 +3,8 @@ ghost use mathlib.Core.Path.{_≡_};
 ghost use Prim.Native.Nat.{_+_, _*_, _≤_, _<_};
 ghost use lib.ListN.{length};
 ghost use Rattle.distance.specs.Signature.{wordOf};
+ghost use Rattle.distance.specs.Laws.{farthest};
+ghost use Rattle.distance.specs.Kind.{apart};
 ghost use Rattle.table.specs.Record.{recordOf, slot};
 ghost use Rattle.table.specs.Same.{TellsFree};
 use super::COUNT;
@@ -65,6 +67,22 @@ pub fn slot_of(t: &[u8], s: usize, i: usize) -> u16
     number::get_u16(t, s * RECORD + SLOTS + 2 * i)
 }
 
+// How many children the record has, as a number of turns.
+pub fn children_of(t: &[u8], s: usize) -> usize
+    requires { ⌜ s * 64 + 64 ≤ length (now t) ⌝ }
+    ensures { λ r. ⌜ r ≡ recordOf (now (t .entry)) s .count ⌝ }
+{
+    count_of(t, s) as usize
+}
+
+// Child slot i as a slot to read on from.
+pub fn child_of(t: &[u8], s: usize, i: usize) -> usize
+    requires { ⌜ (s * 64 + 64 ≤ length (now t)) × (i < 8) ⌝ }
+    ensures { λ r. ⌜ r ≡ slot (recordOf (now (t .entry)) s) i ⌝ }
+{
+    slot_of(t, s, i) as usize
+}
+
 // Child slots 4k to 4k + 3 as one number, the first lowest.
 pub fn four_slots(t: &[u8], s: usize, k: usize) -> u64
     requires { ⌜ (s * 64 + 64 ≤ length (now t)) × (k < 2) ⌝ }
@@ -78,6 +96,14 @@ pub fn signature_of(t: &[u8], s: usize) -> Signature
     ensures { λ r. ⌜ r .readings ≡ recordOf (now (t .entry)) s .readings ⌝ }
 {
     distance::signature_at(t, s * RECORD + SIGNATURE)
+}
+
+// The distance of the record to q: the one place where a stored signature is compared.
+pub fn away_from(t: &[u8], s: usize, kind: u8, q: Signature) -> u32
+    requires { ⌜ s * 64 + 64 ≤ length (now t) ⌝ }
+    ensures { λ r. ⌜ (r ≡ apart kind (recordOf (now (t .entry)) s .readings) (q .readings)) × (r ≤ farthest) ⌝ }
+{
+    distance::apart(kind, signature_of(t, s), q)
 }
 
 // Whether the record is free, that is, all zero. At each turn its first k words of eight bytes are zero.
