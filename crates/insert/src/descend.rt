@@ -1,11 +1,8 @@
 // The walk of a newcomer (001, Algorithm 1): from the root to the record that it is to hang on.
 ghost use mathlib.Core.Path.{_≡_};
-ghost use Prim.Native.Nat.{_+_, _*_, _≤_, _<_};
-ghost use lib.ListN.{length};
+ghost use Prim.Native.Nat.{_+_, _*_, _≤_};
 ghost use Rattle.distance.specs.Signature.{Fit};
-ghost use Rattle.distance.specs.Laws.{farthest};
 ghost use Rattle.distance.specs.Kind.{apart};
-ghost use Rattle.table.specs.Record.{recordOf, slot};
 ghost use Rattle.table.specs.Table.{recordsOf};
 ghost use Rattle.insert.specs.Descent.{Stands, Walkable, descent, descended};
 use super::record::raise;
@@ -18,28 +15,6 @@ const FARTHER: u32 = 1048561;
 pub(crate) struct Attach {
     pub(crate) slot: usize,
     pub(crate) count: u32,
-}
-
-fn child_count(t: &[u8], s: usize) -> usize
-    requires { ⌜ Stands (now t) s ⌝ }
-    ensures { λ r. ⌜ r ≡ recordOf (now (t .entry)) s .count ⌝ }
-{
-    table::count_of(t, s) as usize
-}
-
-fn child(t: &[u8], s: usize, i: usize) -> usize
-    requires { ⌜ Stands (now t) s × (i < 8) ⌝ }
-    ensures { λ r. ⌜ r ≡ slot (recordOf (now (t .entry)) s) i ⌝ }
-{
-    table::slot_of(t, s, i) as usize
-}
-
-// The distance of the record in slot s to x.
-fn away_from(t: &[u8], kind: u8, x: Signature, s: usize) -> u32
-    requires { ⌜ Stands (now t) s ⌝ }
-    ensures { λ r. ⌜ (r ≡ apart kind (recordOf (now (t .entry)) s .readings) (x .readings)) × (r ≤ farthest) ⌝ }
-{
-    distance::apart(kind, table::signature_of(t, s), x)
 }
 
 // The walk from the root, at most `depth` records deep. At each turn what is left of it leads from slot a, at the
@@ -58,20 +33,20 @@ pub(crate) fn descend(
         × (r .count ≤ 1 + 8 * depth) ⌝ }
 {
     let mut a = root;
-    let mut away = away_from(t, kind, x, root);
+    let mut away = table::away_from(t, root, kind, x);
     let mut left = depth;
     let mut count: u32 = 1;
     let slot = loop {
         raise(t, a, away);
         left -= 1;
-        let n = child_count(t, a);
+        let n = table::children_of(t, a);
         count += n as u32;
         let mut best = a;
         let mut near = FARTHER;
         let mut k = 0;
         while k < n {
-            let c = child(t, a, k);
-            let e = away_from(t, kind, x, c);
+            let c = table::child_of(t, a, k);
+            let e = table::away_from(t, c, kind, x);
             if e < near {
                 best = c;
                 near = e;

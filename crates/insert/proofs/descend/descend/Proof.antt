@@ -40,35 +40,35 @@ raise-requires c κs = search needs
 sub-left : tie.Need-sub-left Inv-loop2 μ-loop2 Inv-loop μ-loop
 sub-left c = search needs
 
-child-count-requires : tie.Need-child-count-requires Inv-loop2 μ-loop2 Inv-loop μ-loop
-child-count-requires c κs = search needs
+children-of-requires : tie.Need-children-of-requires Inv-loop2 μ-loop2 Inv-loop μ-loop
+children-of-requires c κs = search needs
 
 cast-count : tie.Need-cast-count Inv-loop2 μ-loop2 Inv-loop μ-loop
 cast-count c =
     let w = c .before .before .before .before .before .before .loop .inv in
-    omega (arith, c .child-count .ensures, few w (c .before .before .before .before .raise .ensures))
+    omega (arith, c .children-of .ensures, few w (c .before .before .before .before .raise .ensures))
 
 add-count : tie.Need-add-count Inv-loop2 μ-loop2 Inv-loop μ-loop
 add-count c =
     let w = c .before .before .before .before .before .before .loop .inv in
     let n = few w (c .before .before .before .before .raise .ensures) in
     let start = c .before .before .before .before .before .before .before .before .before .before in
-    omega (arith, c .child-count .ensures, n, w .small, w .some, start .pre)
+    omega (arith, c .children-of .ensures, n, w .small, w .some, start .pre)
 
 loop2-holds : tie.Need-loop2-holds Inv-loop2 μ-loop2 Inv-loop μ-loop
 loop2-holds c =
     let w = c .before .before .before .before .before .before .loop .inv in
-    scanning w (c .before .before .before .before .raise .ensures) (c .child-count .result) (c .child-count .ensures)
+    scanning w (c .before .before .before .before .raise .ensures) (c .children-of .result) (c .children-of .ensures)
 
-child-requires : tie.Need-child-requires Inv-loop2 μ-loop2 Inv-loop μ-loop
-child-requires c κs =
+child-of-requires : tie.Need-child-of-requires Inv-loop2 μ-loop2 Inv-loop μ-loop
+child-of-requires c κs =
     let i = c .before .before .loop2 .inv in
     (i .here, scanning-child i (c .before .loop2-test .taken) .0)
 
 away-from-requires-2 : tie.Need-away-from-requires-2 Inv-loop2 μ-loop2 Inv-loop μ-loop
 away-from-requires-2 c κs =
     let i = c .before .before .before .before .loop2 .inv in
-    rw (c .before .child .ensures) (scanning-child i (c .before .before .before .loop2-test .taken) .1)
+    rw (c .before .child-of .ensures) (scanning-child i (c .before .before .before .loop2-test .taken) .1)
 
 add-k : tie.Need-add-k Inv-loop2 μ-loop2 Inv-loop μ-loop
 add-k c = search needs
@@ -79,7 +79,7 @@ loop2-less c = search needs
 loop2-again : tie.Need-loop2-again Inv-loop2 μ-loop2 Inv-loop μ-loop
 loop2-again c =
     let l = c .before .before .before .before .before .before .loop2 in
-    let child = c .before .before .before .child .result in
+    let child = c .before .before .before .child-of .result in
     let e = c .before .away-from2 .result in
     let b = ltb e (l .near) in
     let came : (c .if1 .best ≡ pick b child (l .best)) × (c .if1 .near ≡ pick b e (l .near)) =
@@ -94,7 +94,7 @@ loop2-again c =
     (c .if1 .best)
     (c .if1 .near)
     (c .before .before .before .before .before .loop2-test .taken)
-    (c .before .before .before .child .ensures)
+    (c .before .before .before .child-of .ensures)
     (c .before .away-from2 .ensures .0)
     (c .before .away-from2 .ensures .1)
     (came .0)
@@ -138,11 +138,11 @@ descend-spec =
     loop-holds
     raise-requires
     sub-left
-    child-count-requires
+    children-of-requires
     cast-count
     add-count
     loop2-holds
-    child-requires
+    child-of-requires
     away-from-requires-2
     add-k
     loop2-less
