@@ -1,11 +1,11 @@
 // "Visiting a with bound t" (001, Algorithm 2): the walk, and the paper's three steps as functions of their own.
 ghost use mathlib.Core.Path.{_≡_};
 ghost use mathlib.Core.List.{List};
-ghost use Prim.Native.Nat.{ℕ, _+_, _*_, _^_, _≤_, _<_, min};
+ghost use Prim.Native.Nat.{ℕ, _+_, _^_, _≤_, _<_, min};
 ghost use lib.ListN.{length, getD};
 ghost use lib.Seq.{sets};
 ghost use Rattle.distance.specs.Laws.{farthest};
-ghost use Rattle.table.specs.Record.{recordOf, slot};
+ghost use Rattle.table.specs.Record.{recordOf};
 ghost use Rattle.search.specs.Walk.{Stands, Walkable, isEntered, cardWithin, awayFrom, Compared};
 ghost use Rattle.search.specs.Walk.{state, query, childBound, walked};
 use distance::Signature;
@@ -31,28 +31,12 @@ fn smaller(x: u64, y: u64) -> u64
     if x < y { x } else { y }
 }
 
-// How many children the record in slot s has.
-fn child_count(t: &[u8], s: usize) -> usize
-    requires { ⌜ Walkable (now t) × Stands (now t) s ⌝ }
-    ensures { λ r. ⌜ (r ≡ recordOf (now (t .entry)) s .count) × (r ≤ 8) ⌝ }
-{
-    table::count_of(t, s) as usize
-}
-
-// The slot of child i.
-fn child(t: &[u8], s: usize, i: usize) -> usize
-    requires { ⌜ Stands (now t) s × (i < 8) ⌝ }
-    ensures { λ r. ⌜ r ≡ slot (recordOf (now (t .entry)) s) i ⌝ }
-{
-    table::slot_of(t, s, i) as usize
-}
-
 // The distance of the record in slot s to q.
 pub fn away_from(t: &[u8], kind: u8, q: Signature, s: usize) -> u64
     requires { ⌜ Stands (now t) s ⌝ }
     ensures { λ r. ⌜ (r ≡ awayFrom (recordOf (now (t .entry))) kind (q .readings) s) × (r ≤ farthest) ⌝ }
 {
-    wide(distance::apart(kind, table::signature_of(t, s), q))
+    wide(table::away_from(t, s, kind, q))
 }
 
 // Step 1: whether the record in slot s, at the distance `away`, is entered.
@@ -89,7 +73,7 @@ fn distances(t: &[u8], kind: u8, q: Signature, s: usize, n: usize) -> [u64; 8]
     let mut ds = [0u64; 8];
     let mut k = 0;
     while k < n {
-        ds[k] = away_from(t, kind, q, child(t, s, k));
+        ds[k] = away_from(t, kind, q, table::child_of(t, s, k));
         k += 1;
     }
     ds
@@ -109,7 +93,10 @@ fn bound_of(t: &[u8], s: usize, n: usize, ds: [u64; 8], k: usize, radius: u64, b
     let mut j = k + 1;
     while j < n {
         if ds[j] + 2 * radius < away {
-            lowest = smaller(wide(table::timestamp_of(t, child(t, s, j))), lowest);
+            lowest = smaller(
+                wide(table::timestamp_of(t, table::child_of(t, s, j))),
+                lowest,
+            );
         }
         j += 1;
     }
@@ -147,7 +134,7 @@ pub fn walk(
     if !enters(t, s, away, radius, bound) {
         return start;
     }
-    let n = child_count(t, s);
+    let n = table::children_of(t, s);
     let ds = distances(t, kind, q, s, n);
     let found = note(t, s, away, radius, list, start.found);
     let mut reached = Reached {
@@ -160,7 +147,7 @@ pub fn walk(
         let e = ds[k];
         if e <= near + 2 * radius {
             let b = bound_of(t, s, n, ds, k, radius, bound);
-            let c = child(t, s, k);
+            let c = table::child_of(t, s, k);
             if enters(t, c, e, radius, b) {
                 reached = walk(t, kind, q, radius, list, c, e, b, reached, left - 1);
             }

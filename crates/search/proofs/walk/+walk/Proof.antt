@@ -21,8 +21,8 @@ use Rattle.search.proofs.walk.walk.Reads as walk
 use Rattle.search.proofs.walk.walk.Kinds as walk-kinds
 use Rattle.search.proofs.walk.+walk.Lts-walk as walk-lts
 use Rattle.search.proofs.walk.bound_of.Reads as bound-of-reads
-use Rattle.search.proofs.walk.child.Reads as child-reads
-use Rattle.search.proofs.walk.child_count.Reads as child-count-reads
+use Rattle.table.proofs.child_of.Reads as child-of-reads
+use Rattle.table.proofs.children_of.Reads as children-of-reads
 use Rattle.search.proofs.walk.distances.Reads as distances-reads
 use Rattle.search.proofs.walk.enters.Reads as enters-reads
 use Rattle.search.proofs.walk.note.Reads as note-reads
@@ -55,16 +55,16 @@ abbrev Known : ℕ → walk-lts.Claims
 Known t = (
   enters-reads.Asked,
   enters-reads.Learnt,
-  child-count-reads.Asked,
-  child-count-reads.Learnt,
+  children-of-reads.Asked,
+  children-of-reads.Learnt,
   distances-reads.Asked,
   distances-reads.Learnt,
   note-reads.Asked,
   note-reads.Learnt,
   bound-of-reads.Asked,
   bound-of-reads.Learnt,
-  child-reads.Asked,
-  child-reads.Learnt,
+  child-of-reads.Asked,
+  child-of-reads.Learnt,
   walk-below t,
   walk.Post,
   smaller-reads.Asked,
@@ -73,12 +73,12 @@ Known t = (
 
 module _ (τ : ℕ) where
   -- back from the children's count to the function's start, and from the loop to the children's count
-  abbrev opened : walk-lts.After-child-count (Known τ) (walk-at τ) walk.Post Inv-loop μ-loop
+  abbrev opened : walk-lts.After-children-of (Known τ) (walk-at τ) walk.Post Inv-loop μ-loop
       → walk-lts.Start (Known τ) (walk-at τ) walk.Post Inv-loop μ-loop
   opened c = c .before .before .before .before .before .before
 
   abbrev looped : walk-lts.At-loop (Known τ) (walk-at τ) walk.Post Inv-loop μ-loop
-      → walk-lts.After-child-count (Known τ) (walk-at τ) walk.Post Inv-loop μ-loop
+      → walk-lts.After-children-of (Known τ) (walk-at τ) walk.Post Inv-loop μ-loop
   looped c = c .before .before .before .before .before .before .before
 
   returns : walk-lts.Need-returns (Known τ) (walk-at τ) walk.Post Inv-loop μ-loop
@@ -116,44 +116,51 @@ module _ (τ : ℕ) where
       (Steps.visit-out Q (a .left) (a .s) (a .bound)
       (enters-is (c .before) ∙ not-true _ (c .if2 .taken)))
 
-  child-count-requires : walk-lts.Need-child-count-requires (Known τ) (walk-at τ) walk.Post Inv-loop μ-loop
-  child-count-requires c κs = search needs
+  children-of-requires : walk-lts.Need-children-of-requires (Known τ) (walk-at τ) walk.Post Inv-loop μ-loop
+  children-of-requires c κs = search needs
+
+  -- a table that can be walked has no record with more than eight children
+  eight : (c : walk-lts.After-children-of (Known τ) (walk-at τ) walk.Post Inv-loop μ-loop) → c .children-of .result ≤ 8
+  eight c =
+      let p = opened c .pre .1 .0 in
+      omega (arith, c .children-of .ensures, p .0 .few _ (p .1))
 
   distances-requires : walk-lts.Need-distances-requires (Known τ) (walk-at τ) walk.Post Inv-loop μ-loop
-  distances-requires c κs = search needs
+  distances-requires c κs =
+      let n = eight c in search needs
 
   -- the record is entered, and its children are at most eight
-  few : (c : walk-lts.After-child-count (Known τ) (walk-at τ) walk.Post Inv-loop μ-loop) →
+  few : (c : walk-lts.After-children-of (Known τ) (walk-at τ) walk.Post Inv-loop μ-loop) →
       let a = opened c .args in
       let R = recordOf (a .t .now) in
       let Q = query (a .t .now) (a .kind) (a .q .readings) (a .radius) in R (a .s) .count ≤ length (R (a .s) .slots)
   few c =
-      let a = opened c .args in omega (arith, slots-length (a .t .now) (a .s))
+      let a = opened c .args in omega (arith, eight c, c .children-of .ensures, slots-length (a .t .now) (a .s))
 
-  entered : (c : walk-lts.After-child-count (Known τ) (walk-at τ) walk.Post Inv-loop μ-loop) →
+  entered : (c : walk-lts.After-children-of (Known τ) (walk-at τ) walk.Post Inv-loop μ-loop) →
       let a = c .before .before .before .before .before .before .args in
       let R = recordOf (a .t .now) in
       let Q = query (a .t .now) (a .kind) (a .q .readings) (a .radius) in
       let own = cardWithin (R (a .s)) (a .away) (a .radius) in
       after Q (sets (a .list .now) (a .start .found) own) (a .start .found + length own)
-      (a .start .count + c .child-count .result)
+      (a .start .count + c .children-of .result)
       (Steps.restFrom Q (a .left - 1) (a .s) (a .bound) 0)
       ≡ after Q (a .list .now) (a .start .found) (a .start .count) (enteredFrom Q (a .left) (a .s) (a .bound))
   entered c =
       let a = c .before .before .before .before .before .before .args in
       let R = recordOf (a .t .now) in
       let Q = query (a .t .now) (a .kind) (a .q .readings) (a .radius) in
-      rw (c .before .before .before .before .before .before .pre .1 .0 .3, c .child-count .ensures .0)
+      rw (c .before .before .before .before .before .before .pre .1 .0 .3, c .children-of .ensures)
       (sym
       (Steps.entered-after Q (a .s) (few c) (a .list .now) (a .start .found) (a .start .count) (a .left) (a .bound)
       (c .before .before .before .if1 .left) (enters-is (c .before .before) ∙ not-false _ (c .before .if2 .left))))
 
-  fits : (c : walk-lts.After-child-count (Known τ) (walk-at τ) walk.Post Inv-loop μ-loop) →
+  fits : (c : walk-lts.After-children-of (Known τ) (walk-at τ) walk.Post Inv-loop μ-loop) →
       let a = opened c .args in
       let R = recordOf (a .t .now) in
       let Q = query (a .t .now) (a .kind) (a .q .readings) (a .radius) in
       (a .start .found + length (cardWithin (R (a .s)) (a .away) (a .radius)) ≤ length (a .list .now))
-      × (a .start .count + c .child-count .result < 2 ^ 32)
+      × (a .start .count + c .children-of .result < 2 ^ 32)
   fits c =
       let a = opened c .args in
       let R = recordOf (a .t .now) in
@@ -163,7 +170,7 @@ module _ (τ : ℕ) where
       let more =
       rw (entered c) at
       (Steps.after-more Q (sets (a .list .now) (a .start .found) own) (a .start .found + length own)
-      (a .start .count + c .child-count .result) rest) in
+      (a .start .count + c .children-of .result) rest) in
       let p = opened c .pre .1 .1 in
       (omega arith, omega arith)
 
@@ -181,7 +188,7 @@ module _ (τ : ℕ) where
       let R = recordOf (a .t .now) in
       let Q = query (a .t .now) (a .kind) (a .q .readings) (a .radius) in
       after Q (c .before .before .note .last .1 .1 .1 .1 .0) (c .before .before .note .result)
-      (a .start .count + c .before .before .before .before .before .child-count .result)
+      (a .start .count + c .before .before .before .before .before .children-of .result)
       (Steps.restFrom Q (a .left - 1) (a .s) (a .bound) 0)
       ≡ after Q (a .list .now) (a .start .found) (a .start .count) (enteredFrom Q (a .left) (a .s) (a .bound))
   begun c =
@@ -206,10 +213,12 @@ module _ (τ : ℕ) where
       (search needs, refl, refl, refl)
 
   mul-e : walk-lts.Need-mul-e (Known τ) (walk-at τ) walk.Post Inv-loop μ-loop
-  mul-e c = search needs
+  mul-e c =
+      let n = eight (looped (c .before)) in search needs
 
   array-read-e : walk-lts.Need-array-read-e (Known τ) (walk-at τ) walk.Post Inv-loop μ-loop
-  array-read-e c = search needs
+  array-read-e c =
+      let n = eight (looped (c .before)) in search needs
 
   mul-if3 : walk-lts.Need-mul-if3 (Known τ) (walk-at τ) walk.Post Inv-loop μ-loop
   mul-if3 c = search needs
@@ -221,10 +230,12 @@ module _ (τ : ℕ) where
       search needs
 
   bound-of-requires : walk-lts.Need-bound-of-requires (Known τ) (walk-at τ) walk.Post Inv-loop μ-loop
-  bound-of-requires c κs = search needs
+  bound-of-requires c κs =
+      let n = eight (looped (c .before .before)) in search needs
 
-  child-requires : walk-lts.Need-child-requires (Known τ) (walk-at τ) walk.Post Inv-loop μ-loop
-  child-requires c κs =
+  child-of-requires : walk-lts.Need-child-of-requires (Known τ) (walk-at τ) walk.Post Inv-loop μ-loop
+  child-of-requires c κs =
+      let n = eight (looped (c .before .before .before)) in
       (opened (looped (c .before .before .before)) .pre .1 .0 .1, omega arith)
 
   -- the loop's state and what is left lead to what the contract says
@@ -254,52 +265,52 @@ module _ (τ : ℕ) where
       )
 
   -- the child's distance is the definition's
-  child-away : (c : walk-lts.After-child (Known τ) (walk-at τ) walk.Post Inv-loop μ-loop) →
+  child-away : (c : walk-lts.After-child-of (Known τ) (walk-at τ) walk.Post Inv-loop μ-loop) →
       let a = opened (looped (c .before .before .before .before)) .args in
       let Q = query (a .t .now) (a .kind) (a .q .readings) (a .radius) in
       getD (c .before .before .before .before .before .before .before .before .before .before .distances .result)
       (c .before .before .before .before .loop .k)
       0
-      ≡ Steps.awayIn Q (c .child .result)
+      ≡ Steps.awayIn Q (c .child-of .result)
   child-away c =
       let a = opened (looped (c .before .before .before .before)) .args in
       let Q = query (a .t .now) (a .kind) (a .q .readings) (a .radius) in
-      tested (c .before .before .before) .0 ∙ ap (Steps.awayIn Q) (sym (c .child .ensures))
+      tested (c .before .before .before) .0 ∙ ap (Steps.awayIn Q) (sym (c .child-of .ensures))
 
-  child-stands : (c : walk-lts.After-child (Known τ) (walk-at τ) walk.Post Inv-loop μ-loop) →
-      Stands (opened (looped (c .before .before .before .before)) .args .t .now) (c .child .result)
+  child-stands : (c : walk-lts.After-child-of (Known τ) (walk-at τ) walk.Post Inv-loop μ-loop) →
+      Stands (opened (looped (c .before .before .before .before)) .args .t .now) (c .child-of .result)
   child-stands c =
       let a = opened (looped (c .before .before .before .before)) .args in
       let l = c .before .before .before .before .loop in
       let p = opened (looped (c .before .before .before .before)) .pre .1 .0 in
-      let i = looped (c .before .before .before .before) .child-count .ensures .0 in
+      let i = looped (c .before .before .before .before) .children-of .ensures in
       let k : l .k < recordOf (a .t .now) (a .s) .count = omega arith in
-      rw (c .child .ensures) (p .0 .stand (a .s) (l .k) (p .1) k)
+      rw (c .child-of .ensures) (p .0 .stand (a .s) (l .k) (p .1) k)
 
   enters-requires-2 : walk-lts.Need-enters-requires-2 (Known τ) (walk-at τ) walk.Post Inv-loop μ-loop
   enters-requires-2 c κs =
       (child-stands c, opened (looped (c .before .before .before .before)) .pre .1 .0 .2)
 
   -- the child is visited: its walk comes first of what is left
-  visited : (c : walk-lts.After-child (Known τ) (walk-at τ) walk.Post Inv-loop μ-loop) →
+  visited : (c : walk-lts.After-child-of (Known τ) (walk-at τ) walk.Post Inv-loop μ-loop) →
       let a = opened (looped (c .before .before .before .before)) .args in
       let Q = query (a .t .now) (a .kind) (a .q .readings) (a .radius) in
       let k = c .before .before .before .before .loop .k in
       Steps.restFrom Q (a .left - 1) (a .s) (a .bound) k
-      ≡ enteredFrom Q (a .left - 1) (c .child .result) (c .before .bound-of .result)
+      ≡ enteredFrom Q (a .left - 1) (c .child-of .result) (c .before .bound-of .result)
       ++ Steps.restFrom Q (a .left - 1) (a .s) (a .bound) (k + 1)
   visited c =
       let a = opened (looped (c .before .before .before .before)) .args in
       let Q = query (a .t .now) (a .kind) (a .q .readings) (a .radius) in
       let k = c .before .before .before .before .loop .k in
       let e = tested (c .before .before .before) in
-      let i = looped (c .before .before .before .before) .child-count .ensures .0 in
+      let i = looped (c .before .before .before .before) .children-of .ensures in
       let one = few (looped (c .before .before .before .before)) in
       let ds = c .before .before .before .before .before .before .before .before .before .before .distances in
-      Steps.rest-in Q (a .s) one (a .left - 1) (a .bound) k (c .child .result) (c .before .bound-of .result)
+      Steps.rest-in Q (a .s) one (a .left - 1) (a .bound) k (c .child-of .result) (c .before .bound-of .result)
       (omega arith)
       (let x = e .0 in let y = e .1 in omega arith)
-      (c .child .ensures)
+      (c .child-of .ensures)
       (c .before .bound-of .ensures (a .kind) (a .q .readings) (ds .ensures))
 
   sub-walk : walk-lts.Need-sub-walk (Known τ) (walk-at τ) walk.Post Inv-loop μ-loop
@@ -315,7 +326,7 @@ module _ (τ : ℕ) where
       let room =
       rw (← visited h, on (h .before .before .before .before)) at
       (Steps.room-first Q (l .list) (l .reached .found) (l .reached .count)
-      (enteredFrom Q (a .left - 1) (h .child .result) (h .before .bound-of .result))
+      (enteredFrom Q (a .left - 1) (h .child-of .result) (h .before .bound-of .result))
       (Steps.restFrom Q (a .left - 1) (a .s) (a .bound) (l .k + 1))) in
       let len : length (l .list) ≡ length (a .list .now) =
       l .inv .1 ∙ as-long (h .before .before .before .before .before .before) in
@@ -351,12 +362,12 @@ module _ (τ : ℕ) where
       let k = h .before .before .before .before .loop .k in
       let b = h .before .bound-of .result in
       let out =
-      ap (λ (z : ℕ). isEntered (R (h .child .result)) z (a .radius) b) (sym (child-away h))
+      ap (λ (z : ℕ). isEntered (R (h .child-of .result)) z (a .radius) b) (sym (child-away h))
       ∙ sym (c .before .enters2 .ensures)
       ∙ c .if4 .left in
       visited h
       ∙ ap (λ (z : List ℕ). z ++ Steps.restFrom Q (a .left - 1) (a .s) (a .bound) (k + 1))
-      (Steps.visit-out Q (a .left - 1) (h .child .result) b out)
+      (Steps.visit-out Q (a .left - 1) (h .child-of .result) b out)
 
   -- a turn of the loop: whichever way, what was left at k is what the turn enters, and what is left at k + 1
   turned : (c : walk-lts.Joined3 (Known τ) (walk-at τ) walk.Post Inv-loop μ-loop) →
@@ -374,7 +385,7 @@ module _ (τ : ℕ) where
       let rest = Steps.restFrom Q (a .left - 1) (a .s) (a .bound) in
       let on-from = after Q (l .list) (l .reached .found) (l .reached .count) in
       let e = tested (c .before) in
-      let i = looped (c .before .before) .child-count .ensures .0 in
+      let i = looped (c .before .before) .children-of .ensures in
       let passed : c .if3 .list ≡ l .list → c .if3 .reached ≡ l .reached → rest (l .k) ≡ rest (l .k + 1)
       → (length (c .if3 .list) ≡ length (l .list))
       × (after Q (c .if3 .list) (c .if3 .reached .found) (c .if3 .reached .count) (rest (l .k + 1))
@@ -387,10 +398,10 @@ module _ (τ : ℕ) where
       ) in
       cases (c .if3 .came)
       (λ w.
-      let h : walk-lts.After-child (Known τ) (walk-at τ) walk.Post Inv-loop μ-loop =
+      let h : walk-lts.After-child-of (Known τ) (walk-at τ) walk.Post Inv-loop μ-loop =
       record {
         before = record { before = record { before = c .before; if3 = w .0 }; bound-of = w .1 };
-        child = w .2;
+        child-of = w .2;
       } in
       let came : state (c .if3 .list) (c .if3 .reached .found) (c .if3 .reached .count)
       ≡ on-from (enteredFrom Q (a .left - 1) (w .2 .result) (w .1 .result)) =
@@ -404,10 +415,10 @@ module _ (τ : ℕ) where
       ))
       (λ v. cases v
       (λ w.
-      let h : walk-lts.After-child (Known τ) (walk-at τ) walk.Post Inv-loop μ-loop =
+      let h : walk-lts.After-child-of (Known τ) (walk-at τ) walk.Post Inv-loop μ-loop =
       record {
         before = record { before = record { before = c .before; if3 = w .0 }; bound-of = w .1 };
-        child = w .2;
+        child-of = w .2;
       } in
       passed (w .5) (w .6) (skipped record { before = record { before = h; enters2 = w .3 }; if4 = w .4 }))
       (λ w.
@@ -436,7 +447,7 @@ module _ (τ : ℕ) where
       let R = recordOf (a .t .now) in
       let Q = query (a .t .now) (a .kind) (a .q .readings) (a .radius) in
       let l = c .before .loop in
-      let i = looped (c .before) .child-count .ensures .0 in
+      let i = looped (c .before) .children-of .ensures in
       Steps.stays Q (l .list) (l .reached .found) (l .reached .count) _
       (Steps.rest-end Q (a .s) (few (looped (c .before))) (a .left - 1) (a .bound) (l .k) (omega arith))
       ∙ on (c .before)
@@ -446,7 +457,7 @@ pub +walk-spec : {M : Type 1} → statement M
     (returns τ)
     (enters-requires τ)
     (returns-2 τ)
-    (child-count-requires τ)
+    (children-of-requires τ)
     (distances-requires τ)
     (note-requires τ)
     (add-t25 τ)
@@ -456,7 +467,7 @@ pub +walk-spec : {M : Type 1} → statement M
     (mul-if3 τ)
     (add-if3 τ)
     (bound-of-requires τ)
-    (child-requires τ)
+    (child-of-requires τ)
     (enters-requires-2 τ)
     (sub-walk τ)
     (walk-requires τ)

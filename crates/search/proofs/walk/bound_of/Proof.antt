@@ -51,13 +51,13 @@ add-if1 c =
     let near = c .before .before .before .pre .1 .2 (c .before .loop .j) in
     search needs
 
-child-requires : tie.Need-child-requires Inv-loop μ-loop
-child-requires c κs = search needs
+child-of-requires : tie.Need-child-of-requires Inv-loop μ-loop
+child-of-requires c κs = search needs
 
 timestamp-of-requires : tie.Need-timestamp-of-requires Inv-loop μ-loop
 timestamp-of-requires c κs =
     let p = c .before .before .before .before .before .pre in
-    rw (c .child .ensures) (p .0 .0 .stand _ _ (p .0 .1) (omega arith))
+    rw (c .child-of .ensures) (p .0 .0 .stand _ _ (p .0 .1) (omega arith))
 
 wide-requires : tie.Need-wide-requires Inv-loop μ-loop
 wide-requires c κs = search needs
@@ -123,7 +123,7 @@ bound-of-spec =
     array-read-if1
     mul-if1-2
     add-if1
-    child-requires
+    child-of-requires
     timestamp-of-requires
     wide-requires
     smaller-requires

@@ -25,13 +25,13 @@ loop-holds c = (
       (recordOf (c .before .args .t .now)) (c .before .args .kind) (c .before .args .q .readings) (c .before .args .s),
 )
 
-child-requires : tie.Need-child-requires Inv-loop μ-loop
-child-requires c κs = search needs
+child-of-requires : tie.Need-child-of-requires Inv-loop μ-loop
+child-of-requires c κs = search needs
 
 away-from-requires : tie.Need-away-from-requires Inv-loop μ-loop
 away-from-requires c κs =
     let p = c .before .before .before .before .pre in
-    rw (c .child .ensures) (p .0 .stand _ _ (p .1) (omega arith))
+    rw (c .child-of .ensures) (p .0 .stand _ _ (p .1) (omega arith))
 
 mul-ds : tie.Need-mul-ds Inv-loop μ-loop
 mul-ds c = search needs
@@ -50,7 +50,7 @@ loop-again c =
     let l = c .before .before .before .loop in
     let a = c .before .before .before .before .before .args in
     let R = recordOf (a .t .now) in
-    let e = c .away-from .ensures .0 ∙ ap (awayFrom R (a .kind) (a .q .readings)) (c .before .child .ensures) in
+    let e = c .away-from .ensures .0 ∙ ap (awayFrom R (a .kind) (a .q .readings)) (c .before .child-of .ensures) in
     let more =
     compared-more R (a .kind) (a .q .readings) (a .s) (l .k) _ _ (omega arith) e (c .away-from .ensures .1) (l .inv .2) in
     (search needs, search needs, more)
@@ -68,7 +68,7 @@ distances-spec =
     Inv-loop
     μ-loop
     loop-holds
-    child-requires
+    child-of-requires
     away-from-requires
     mul-ds
     array-write-ds
