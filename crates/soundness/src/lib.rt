@@ -27,7 +27,7 @@ fn sibling_ok(t: &[u8], kind: u8, x: Signature, time: u32, far: u32, b: usize, c
     if c == b {
         true
     } else if table::timestamp_of(t, c) < time {
-        far <= distance::apart(kind, x, table::signature_of(t, c))
+        far <= table::away_from(t, c, kind, x)
     } else {
         true
     }
@@ -55,7 +55,7 @@ fn above_ok(t: &[u8], kind: u8, x: Signature, time: u32, b: usize) -> bool
     requires { ⌜ Whole (now t) × Stands (now t) b ⌝ }
     ensures { λ r. ⌜ r ≡ passes (recordOf (now (t .entry))) kind (x .readings) time b ⌝ }
 {
-    let far = distance::apart(kind, x, table::signature_of(t, b));
+    let far = table::away_from(t, b, kind, x);
     if far <= table::radius_of(t, b) {
         let p = table::parent_of(t, b);
         if p == NO_SLOT {

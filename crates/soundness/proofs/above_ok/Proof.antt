@@ -1,19 +1,26 @@
--- `soundness::above_ok` meets its contract, one law of `passes` for each way through it. Assumes nothing.
-use mathlib.Core.Path.{sym, ap, _∙_}
+-- `soundness::above_ok` meets its contract, one law of `passes` for each way through it; the distance is the same both
+-- ways. Assumes nothing.
+use mathlib.Core.Path.{_≡_, sym, ap, _∙_}
 use native.Mathlib.Omega.{arith}
 use borrow.Author.Needs.{needs}
-use Rattle.distance.specs.Kind.{apart}
+use Rattle.distance.specs.Kind.{apart, apart-distance}
 use Rattle.table.specs.Record.{recordOf}
 use Rattle.soundness.specs.Climb.{passes-far, passes-root, passes-child, siblingsPass}
 use Rattle.soundness.specs.Stands.{parent-linked}
 use Rattle.soundness.proofs.above_ok.Statement.{statement}
 use Rattle.soundness.proofs.above_ok.Tie as tie
 
-signature-of-requires : tie.Need-signature-of-requires
-signature-of-requires c κs = omega arith
+away-from-requires : tie.Need-away-from-requires
+away-from-requires c κs = omega arith
 
-apart-requires : tie.Need-apart-requires
-apart-requires c κs = search needs
+-- how far b is from x is how far x is from b
+turned : (c : tie.After-away-from) →
+    let a = c .before .before .args in
+    c .away-from .result ≡ apart (a .kind) (a .x .readings) (recordOf (a .t .now) (a .b) .readings)
+turned c =
+    let a = c .before .before .args in
+    c .away-from .ensures .0
+    ∙ apart-distance (a .kind) .both-ways (recordOf (a .t .now) (a .b) .readings) (a .x .readings)
 
 radius-of-requires : tie.Need-radius-of-requires
 radius-of-requires c κs = omega arith
@@ -26,22 +33,19 @@ cast-siblings-ok c = search needs
 
 siblings-ok-requires : tie.Need-siblings-ok-requires
 siblings-ok-requires c κs =
-    let start = c .before .before .before .before .before .before .before in
+    let start = c .before .before .before .before .before .before in
     let a = start .args in
     let p = c .before .parent-of .ensures in
     let linked = parent-linked (a .t .now) (a .b) (start .pre .0) (start .pre .1) (λ e. c .if2 .left (p ∙ e)) in (
       start .pre .0,
       rw p linked,
-      c .before .before .before .before .apart .ensures .0
-          ∙ ap (apart (a .kind) (a .x .readings)) (c .before .before .before .before .before .signature-of .ensures),
+      turned (c .before .before .before .before),
     )
 
 returns : tie.Need-returns
 returns c =
-    let a = c .before .before .before .before .before .before .before .args in
-    let far =
-    c .before .before .before .before .apart .ensures .0
-    ∙ ap (apart (a .kind) (a .x .readings)) (c .before .before .before .before .before .signature-of .ensures) in
+    let a = c .before .before .before .before .before .before .args in
+    let far = turned (c .before .before .before .before) in
     sym
     (passes-root
     (recordOf (a .t .now))
@@ -54,12 +58,9 @@ returns c =
 
 returns-2 : tie.Need-returns-2
 returns-2 c =
-    let a = c .before .before .before .before .before .before .before .before .args in
+    let a = c .before .before .before .before .before .before .before .args in
     let R = recordOf (a .t .now) in
-    let compared = c .before .before .before .before .before in
-    let far =
-    compared .apart .ensures .0
-    ∙ ap (apart (a .kind) (a .x .readings)) (compared .before .signature-of .ensures) in
+    let far = turned (c .before .before .before .before .before) in
     let p = c .before .before .parent-of .ensures in
     c .siblings-ok .ensures
     ∙ ap (siblingsPass R (a .kind) (a .x .readings) (a .time) (a .b)) p
@@ -75,10 +76,8 @@ returns-2 c =
 
 returns-3 : tie.Need-returns-3
 returns-3 c =
-    let a = c .before .before .before .before .before .args in
-    let far =
-    c .before .before .apart .ensures .0
-    ∙ ap (apart (a .kind) (a .x .readings)) (c .before .before .before .signature-of .ensures) in
+    let a = c .before .before .before .before .args in
+    let far = turned (c .before .before) in
     sym
     (passes-far
     (recordOf (a .t .now))
@@ -92,8 +91,7 @@ pub above-ok-spec : {M : Type 1} → statement M
 above-ok-spec =
     tie.close
     (tie.spec
-    signature-of-requires
-    apart-requires
+    away-from-requires
     radius-of-requires
     parent-of-requires
     cast-siblings-ok

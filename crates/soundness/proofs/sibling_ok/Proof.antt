@@ -1,8 +1,9 @@
--- `soundness::sibling_ok` meets its contract: b itself is not farther than b, and a younger record is not asked.
--- Assumes nothing.
+-- `soundness::sibling_ok` meets its contract: b itself is not farther than b, a younger record is not asked, and the
+-- distance is the same both ways. Assumes nothing.
 use mathlib.Core.Path.{sym}
 use native.Mathlib.Omega.{arith}
 use borrow.Author.Needs.{needs}
+use Rattle.distance.specs.Kind.{apart-distance}
 use Rattle.table.specs.Record.{recordOf}
 use Rattle.soundness.specs.Climb.{sibling-same, sibling-younger, sibling-older}
 use Rattle.soundness.proofs.sibling_ok.Statement.{statement}
@@ -11,11 +12,8 @@ use Rattle.soundness.proofs.sibling_ok.Tie as tie
 timestamp-of-requires : tie.Need-timestamp-of-requires
 timestamp-of-requires c κs = omega arith
 
-signature-of-requires : tie.Need-signature-of-requires
-signature-of-requires c κs = omega arith
-
-apart-requires : tie.Need-apart-requires
-apart-requires c κs = search needs
+away-from-requires : tie.Need-away-from-requires
+away-from-requires c κs = omega arith
 
 returns : tie.Need-returns
 returns c =
@@ -24,8 +22,10 @@ returns c =
 
 returns-2 : tie.Need-returns-2
 returns-2 c =
-    let a = c .before .before .before .before .before .before .args in
-    cc (sibling-older (recordOf (a .t .now)) (a .kind) (a .x .readings) (a .time) (a .b) (a .c) (omega arith))
+    let a = c .before .before .before .before .before .args in
+    let R = recordOf (a .t .now) in
+    let turned = apart-distance (a .kind) .both-ways (R (a .c) .readings) (a .x .readings) in
+    cc (sibling-older R (a .kind) (a .x .readings) (a .time) (a .b) (a .c) (omega arith), turned)
 
 returns-3 : tie.Need-returns-3
 returns-3 c =
@@ -37,8 +37,7 @@ sibling-ok-spec =
     tie.close
     (tie.spec
     timestamp-of-requires
-    signature-of-requires
-    apart-requires
+    away-from-requires
     returns
     returns-2
     returns-3)
