@@ -31,8 +31,11 @@ pub record Walkable (l : List ℕ) : Type 0 where
 -- ---- one record, at the distance `away`
 
 -- step 1: "its timestamp is below t and its distance to the query is at most its covering radius plus r"
+abbrev pub isCovered : Record → ℕ → ℕ → Bool
+isCovered a away r = leb away (a .radius + r)
+
 abbrev pub isEntered : Record → ℕ → ℕ → ℕ → Bool
-isEntered a away r t = ltb (a .timestamp) t && leb away (a .radius + r)
+isEntered a away r t = ltb (a .timestamp) t && isCovered a away r
 
 -- step 2: its card, if the distance is at most r
 abbrev pub cardWithin : Record → ℕ → ℕ → List ℕ

@@ -6,7 +6,7 @@ ghost use lib.ListN.{length, getD};
 ghost use lib.Seq.{sets};
 ghost use Rattle.distance.specs.Laws.{farthest};
 ghost use Rattle.table.specs.Record.{recordOf};
-ghost use Rattle.search.specs.Walk.{Stands, Walkable, isEntered, cardWithin, awayFrom, Compared};
+ghost use Rattle.search.specs.Walk.{Stands, Walkable, isCovered, isEntered, cardWithin, awayFrom, Compared};
 ghost use Rattle.search.specs.Walk.{state, query, childBound, walked};
 use distance::Signature;
 
@@ -39,14 +39,22 @@ pub fn away_from(t: &[u8], kind: u8, q: Signature, s: usize) -> u64
     wide(table::away_from(t, s, kind, q))
 }
 
+// The part of step 1 that asks for no bound: whether the distance `away` is at most the covering radius plus r.
+fn covers(t: &[u8], s: usize, away: u64, radius: u64) -> bool
+    requires { ⌜ Stands (now t) s × (radius < 2 ^ 32) ⌝ }
+    ensures { λ r. ⌜ r ≡ isCovered (recordOf (now (t .entry)) s) away radius ⌝ }
+{
+    let covered = wide(table::radius_of(t, s)) + radius;
+    away <= covered
+}
+
 // Step 1: whether the record in slot s, at the distance `away`, is entered.
 fn enters(t: &[u8], s: usize, away: u64, radius: u64, bound: u64) -> bool
     requires { ⌜ Stands (now t) s × (radius < 2 ^ 32) ⌝ }
     ensures { λ r. ⌜ r ≡ isEntered (recordOf (now (t .entry)) s) away radius bound ⌝ }
 {
     let timestamp = wide(table::timestamp_of(t, s));
-    let covered = wide(table::radius_of(t, s)) + radius;
-    (timestamp < bound) & (away <= covered)
+    (timestamp < bound) & covers(t, s, away, radius)
 }
 
 // Step 2: the card of the record in slot s, at the distance `away`, is listed if that is at most the radius.
@@ -146,9 +154,9 @@ pub fn walk(
     while k < n {
         let e = ds[k];
         if e <= near + 2 * radius {
-            let b = bound_of(t, s, n, ds, k, radius, bound);
             let c = table::child_of(t, s, k);
-            if enters(t, c, e, radius, b) {
+            if covers(t, c, e, radius) {
+                let b = bound_of(t, s, n, ds, k, radius, bound);
                 reached = walk(t, kind, q, radius, list, c, e, b, reached, left - 1);
             }
         }

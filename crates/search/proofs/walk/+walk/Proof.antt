@@ -3,17 +3,19 @@
 -- children enter; and `near` is the smallest distance of the children passed. Assumes nothing.
 use Prim.Native.Nat.{ℕ, _+_, _-_, _^_, _≤_, _<_}
 use mathlib.Core.Path.{_≡_, refl, sym, ap, _∙_}
+use mathlib.Core.Bool.{Bool, true, false, _&&_}
 use mathlib.Core.List.{List, _++_}
 use native.Mathlib.Omega.{arith}
 use borrow.Author.Needs.{needs}
 use borrow.Author.Tests.{not-true, not-false}
+use lib.Dec.{ltb}
 use lib.ListN.{length, getD}
 use lib.Seq.{sets, length-sets}
 use borrow.Fn.Kinds.{In}
 use borrow.Fn.PlainCycle.{Measures, is, falls, and}
 use Rattle.distance.specs.Laws.{farthest}
 use Rattle.table.specs.Record.{recordOf, slot}
-use Rattle.search.specs.Walk.{Stands, isEntered, cardWithin, State, state, query, smallestTo, enteredFrom, after}
+use Rattle.search.specs.Walk.{Stands, isCovered, isEntered, cardWithin, State, state, query, smallestTo, childBound, enteredFrom, after}
 use Rattle.search.specs.declared.walk.Reached.{Reached}
 use Rattle.search.proofs.Steps
 use Rattle.search.proofs.Steps.{cases, slots-length, smallest-more, smallest-same, smallest-at-most}
@@ -23,6 +25,7 @@ use Rattle.search.proofs.walk.+walk.Lts-walk as walk-lts
 use Rattle.search.proofs.walk.bound_of.Reads as bound-of-reads
 use Rattle.table.proofs.child_of.Reads as child-of-reads
 use Rattle.table.proofs.children_of.Reads as children-of-reads
+use Rattle.search.proofs.walk.covers.Reads as covers-reads
 use Rattle.search.proofs.walk.distances.Reads as distances-reads
 use Rattle.search.proofs.walk.enters.Reads as enters-reads
 use Rattle.search.proofs.walk.note.Reads as note-reads
@@ -31,6 +34,10 @@ use Rattle.search.proofs.walk.+walk.{statement}
 use Rattle.search.proofs.walk.+walk.Tie.{close}
 
 -- the depth left
+and-false : (x : Bool) → x && false ≡ false
+and-false true = refl
+and-false false = refl
+
 abbrev μ-walk : Measures 2 walk-kinds.ps ℕ
 μ-walk κs a = a .1 .1 .1 .1 .1 .1 .1 .1 .1 .0
 
@@ -61,10 +68,12 @@ Known t = (
   distances-reads.Learnt,
   note-reads.Asked,
   note-reads.Learnt,
-  bound-of-reads.Asked,
-  bound-of-reads.Learnt,
   child-of-reads.Asked,
   child-of-reads.Learnt,
+  covers-reads.Asked,
+  covers-reads.Learnt,
+  bound-of-reads.Asked,
+  bound-of-reads.Learnt,
   walk-below t,
   walk.Post,
   smaller-reads.Asked,
@@ -229,14 +238,10 @@ module _ (τ : ℕ) where
       let small : l .near ≤ farthest = rw (l .inv .3) (smallest-at-most _ _ _) in
       search needs
 
-  bound-of-requires : walk-lts.Need-bound-of-requires (Known τ) (walk-at τ) walk.Post Inv-loop μ-loop
-  bound-of-requires c κs =
-      let n = eight (looped (c .before .before)) in search needs
-
   child-of-requires : walk-lts.Need-child-of-requires (Known τ) (walk-at τ) walk.Post Inv-loop μ-loop
   child-of-requires c κs =
-      let n = eight (looped (c .before .before .before)) in
-      (opened (looped (c .before .before .before)) .pre .1 .0 .1, omega arith)
+      let n = eight (looped (c .before .before)) in
+      (opened (looped (c .before .before)) .pre .1 .0 .1, omega arith)
 
   -- the loop's state and what is left lead to what the contract says
   on : (c : walk-lts.At-loop (Known τ) (walk-at τ) walk.Post Inv-loop μ-loop) →
@@ -266,71 +271,95 @@ module _ (τ : ℕ) where
 
   -- the child's distance is the definition's
   child-away : (c : walk-lts.After-child-of (Known τ) (walk-at τ) walk.Post Inv-loop μ-loop) →
-      let a = opened (looped (c .before .before .before .before)) .args in
+      let a = opened (looped (c .before .before .before)) .args in
       let Q = query (a .t .now) (a .kind) (a .q .readings) (a .radius) in
-      getD (c .before .before .before .before .before .before .before .before .before .before .distances .result)
-      (c .before .before .before .before .loop .k)
+      getD (c .before .before .before .before .before .before .before .before .before .distances .result)
+      (c .before .before .before .loop .k)
       0
       ≡ Steps.awayIn Q (c .child-of .result)
   child-away c =
-      let a = opened (looped (c .before .before .before .before)) .args in
+      let a = opened (looped (c .before .before .before)) .args in
       let Q = query (a .t .now) (a .kind) (a .q .readings) (a .radius) in
-      tested (c .before .before .before) .0 ∙ ap (Steps.awayIn Q) (sym (c .child-of .ensures))
+      tested (c .before .before) .0 ∙ ap (Steps.awayIn Q) (sym (c .child-of .ensures))
 
   child-stands : (c : walk-lts.After-child-of (Known τ) (walk-at τ) walk.Post Inv-loop μ-loop) →
-      Stands (opened (looped (c .before .before .before .before)) .args .t .now) (c .child-of .result)
+      Stands (opened (looped (c .before .before .before)) .args .t .now) (c .child-of .result)
   child-stands c =
-      let a = opened (looped (c .before .before .before .before)) .args in
-      let l = c .before .before .before .before .loop in
-      let p = opened (looped (c .before .before .before .before)) .pre .1 .0 in
-      let i = looped (c .before .before .before .before) .children-of .ensures in
+      let a = opened (looped (c .before .before .before)) .args in
+      let l = c .before .before .before .loop in
+      let p = opened (looped (c .before .before .before)) .pre .1 .0 in
+      let i = looped (c .before .before .before) .children-of .ensures in
       let k : l .k < recordOf (a .t .now) (a .s) .count = omega arith in
       rw (c .child-of .ensures) (p .0 .stand (a .s) (l .k) (p .1) k)
 
-  enters-requires-2 : walk-lts.Need-enters-requires-2 (Known τ) (walk-at τ) walk.Post Inv-loop μ-loop
-  enters-requires-2 c κs =
-      (child-stands c, opened (looped (c .before .before .before .before)) .pre .1 .0 .2)
+  covers-requires : walk-lts.Need-covers-requires (Known τ) (walk-at τ) walk.Post Inv-loop μ-loop
+  covers-requires c κs =
+      (child-stands c, opened (looped (c .before .before .before)) .pre .1 .0 .2)
 
-  -- the child is visited: its walk comes first of what is left
+  bound-of-requires : walk-lts.Need-bound-of-requires (Known τ) (walk-at τ) walk.Post Inv-loop μ-loop
+  bound-of-requires c κs =
+      let h = c .before .before in
+      let entry = looped (h .before .before .before) in
+      let p = opened entry .pre .1 .0 in
+      let ds = h .before .before .before .before .before .before .before .before .before .distances in (
+        (p .0, p .1, entry .children-of .ensures, eight entry),
+        (h .before .before .loop-test .taken, p .2, ds .ensures .near),
+      )
+
+  -- the child is visited with the bound u: its walk comes first of what is left
   visited : (c : walk-lts.After-child-of (Known τ) (walk-at τ) walk.Post Inv-loop μ-loop) →
-      let a = opened (looped (c .before .before .before .before)) .args in
+      let a = opened (looped (c .before .before .before)) .args in
       let Q = query (a .t .now) (a .kind) (a .q .readings) (a .radius) in
-      let k = c .before .before .before .before .loop .k in
-      Steps.restFrom Q (a .left - 1) (a .s) (a .bound) k
-      ≡ enteredFrom Q (a .left - 1) (c .child-of .result) (c .before .bound-of .result)
+      let k = c .before .before .before .loop .k in
+      (u : ℕ)
+      → u ≡ childBound Q (a .s) k (a .bound)
+      → Steps.restFrom Q (a .left - 1) (a .s) (a .bound) k
+      ≡ enteredFrom Q (a .left - 1) (c .child-of .result) u
       ++ Steps.restFrom Q (a .left - 1) (a .s) (a .bound) (k + 1)
-  visited c =
-      let a = opened (looped (c .before .before .before .before)) .args in
+  visited c u is =
+      let a = opened (looped (c .before .before .before)) .args in
       let Q = query (a .t .now) (a .kind) (a .q .readings) (a .radius) in
-      let k = c .before .before .before .before .loop .k in
-      let e = tested (c .before .before .before) in
-      let i = looped (c .before .before .before .before) .children-of .ensures in
-      let one = few (looped (c .before .before .before .before)) in
-      let ds = c .before .before .before .before .before .before .before .before .before .before .distances in
-      Steps.rest-in Q (a .s) one (a .left - 1) (a .bound) k (c .child-of .result) (c .before .bound-of .result)
+      let k = c .before .before .before .loop .k in
+      let e = tested (c .before .before) in
+      let i = looped (c .before .before .before) .children-of .ensures in
+      let one = few (looped (c .before .before .before)) in
+      Steps.rest-in Q (a .s) one (a .left - 1) (a .bound) k (c .child-of .result) u
       (omega arith)
       (let x = e .0 in let y = e .1 in omega arith)
       (c .child-of .ensures)
-      (c .before .bound-of .ensures (a .kind) (a .q .readings) (ds .ensures))
+      is
+
+  -- the code's bound is the definition's
+  bounded : (c : walk-lts.After-bound-of (Known τ) (walk-at τ) walk.Post Inv-loop μ-loop) →
+      let h = c .before .before .before in
+      let a = opened (looped (h .before .before .before)) .args in
+      let Q = query (a .t .now) (a .kind) (a .q .readings) (a .radius) in
+      c .bound-of .result ≡ childBound Q (a .s) (h .before .before .before .loop .k) (a .bound)
+  bounded c =
+      let h = c .before .before .before in
+      let a = opened (looped (h .before .before .before)) .args in
+      let ds = h .before .before .before .before .before .before .before .before .before .distances in
+      c .bound-of .ensures (a .kind) (a .q .readings) (ds .ensures)
 
   sub-walk : walk-lts.Need-sub-walk (Known τ) (walk-at τ) walk.Post Inv-loop μ-loop
   sub-walk c = search needs
 
   walk-requires : walk-lts.Need-walk-requires (Known τ) (walk-at τ) walk.Post Inv-loop μ-loop
   walk-requires c κs =
-      let h = c .before .before .before in
-      let a = opened (looped (h .before .before .before .before)) .args in
+      let h = c .before .before .before .before in
+      let u = c .before .bound-of .result in
+      let a = opened (looped (h .before .before .before)) .args in
       let Q = query (a .t .now) (a .kind) (a .q .readings) (a .radius) in
-      let l = h .before .before .before .before .loop in
-      let p = opened (looped (h .before .before .before .before)) .pre in
+      let l = h .before .before .before .loop in
+      let p = opened (looped (h .before .before .before)) .pre in
       let room =
-      rw (← visited h, on (h .before .before .before .before)) at
+      rw (← visited h u (bounded (c .before)), on (h .before .before .before)) at
       (Steps.room-first Q (l .list) (l .reached .found) (l .reached .count)
-      (enteredFrom Q (a .left - 1) (h .child-of .result) (h .before .bound-of .result))
+      (enteredFrom Q (a .left - 1) (h .child-of .result) u)
       (Steps.restFrom Q (a .left - 1) (a .s) (a .bound) (l .k + 1))) in
       let len : length (l .list) ≡ length (a .list .now) =
-      l .inv .1 ∙ as-long (h .before .before .before .before .before .before) in
-      let some = looped (h .before .before .before .before) .before .before .before .if1 .left in (
+      l .inv .1 ∙ as-long (h .before .before .before .before .before) in
+      let some = looped (h .before .before .before) .before .before .before .if1 .left in (
         omega arith,
         (
           (p .1 .0 .0, child-stands h, p .1 .0 .2, child-away h),
@@ -347,27 +376,29 @@ module _ (τ : ℕ) where
   loop-less : walk-lts.Need-loop-less (Known τ) (walk-at τ) walk.Post Inv-loop μ-loop
   loop-less c = search needs
 
-  -- the child is not entered: nothing of it comes before what is left
+  -- the child is not covered, and so not entered: nothing of it comes before what is left
   skipped : (c : walk-lts.Else4 (Known τ) (walk-at τ) walk.Post Inv-loop μ-loop) →
       let h = c .before .before in
-      let a = opened (looped (h .before .before .before .before)) .args in
+      let a = opened (looped (h .before .before .before)) .args in
       let Q = query (a .t .now) (a .kind) (a .q .readings) (a .radius) in
-      let k = h .before .before .before .before .loop .k in
+      let k = h .before .before .before .loop .k in
       Steps.restFrom Q (a .left - 1) (a .s) (a .bound) k ≡ Steps.restFrom Q (a .left - 1) (a .s) (a .bound) (k + 1)
   skipped c =
       let h = c .before .before in
-      let a = opened (looped (h .before .before .before .before)) .args in
+      let a = opened (looped (h .before .before .before)) .args in
       let R = recordOf (a .t .now) in
       let Q = query (a .t .now) (a .kind) (a .q .readings) (a .radius) in
-      let k = h .before .before .before .before .loop .k in
-      let b = h .before .bound-of .result in
+      let k = h .before .before .before .loop .k in
+      let u = childBound Q (a .s) k (a .bound) in
       let out =
-      ap (λ (z : ℕ). isEntered (R (h .child-of .result)) z (a .radius) b) (sym (child-away h))
-      ∙ sym (c .before .enters2 .ensures)
+      ap (λ (z : ℕ). isCovered (R (h .child-of .result)) z (a .radius)) (sym (child-away h))
+      ∙ sym (c .before .covers .ensures)
       ∙ c .if4 .left in
-      visited h
+      visited h u refl
       ∙ ap (λ (z : List ℕ). z ++ Steps.restFrom Q (a .left - 1) (a .s) (a .bound) (k + 1))
-      (Steps.visit-out Q (a .left - 1) (h .child-of .result) b out)
+      (Steps.visit-out Q (a .left - 1) (h .child-of .result) u
+      (ap (λ (z : Bool). ltb (R (h .child-of .result) .timestamp) u && z) out
+      ∙ and-false (ltb (R (h .child-of .result) .timestamp) u)))
 
   -- a turn of the loop: whichever way, what was left at k is what the turn enters, and what is left at k + 1
   turned : (c : walk-lts.Joined3 (Known τ) (walk-at τ) walk.Post Inv-loop μ-loop) →
@@ -399,28 +430,24 @@ module _ (τ : ℕ) where
       cases (c .if3 .came)
       (λ w.
       let h : walk-lts.After-child-of (Known τ) (walk-at τ) walk.Post Inv-loop μ-loop =
-      record {
-        before = record { before = record { before = c .before; if3 = w .0 }; bound-of = w .1 };
-        child-of = w .2;
-      } in
+      record { before = record { before = c .before; if3 = w .0 }; child-of = w .1 } in
+      let b : walk-lts.After-bound-of (Known τ) (walk-at τ) walk.Post Inv-loop μ-loop =
+      record { before = record { before = record { before = h; covers = w .2 }; if4 = w .3 }; bound-of = w .4 } in
       let came : state (c .if3 .list) (c .if3 .reached .found) (c .if3 .reached .count)
-      ≡ on-from (enteredFrom Q (a .left - 1) (w .2 .result) (w .1 .result)) =
+      ≡ on-from (enteredFrom Q (a .left - 1) (w .1 .result) (w .4 .result)) =
       Steps.parts (w .9) (ap (λ (v : Reached). v .found) (w .10)) (ap (λ (v : Reached). v .count) (w .10))
       ∙ w .6 .ensures in (
         ap (λ (v : State). length (v .list)) came
             ∙ Steps.after-length Q (l .list) (l .reached .found) (l .reached .count) _,
         Steps.onward Q _ (c .if3 .list) (c .if3 .reached .found) (c .if3 .reached .count) (rest (l .k + 1)) came
             ∙ sym (Steps.after-append Q (l .list) (l .reached .found) (l .reached .count) _ (rest (l .k + 1)))
-            ∙ ap on-from (sym (visited h)),
+            ∙ ap on-from (sym (visited h (w .4 .result) (bounded b))),
       ))
       (λ v. cases v
       (λ w.
       let h : walk-lts.After-child-of (Known τ) (walk-at τ) walk.Post Inv-loop μ-loop =
-      record {
-        before = record { before = record { before = c .before; if3 = w .0 }; bound-of = w .1 };
-        child-of = w .2;
-      } in
-      passed (w .5) (w .6) (skipped record { before = record { before = h; enters2 = w .3 }; if4 = w .4 }))
+      record { before = record { before = c .before; if3 = w .0 }; child-of = w .1 } in
+      passed (w .4) (w .5) (skipped record { before = record { before = h; covers = w .2 }; if4 = w .3 }))
       (λ w.
       passed (w .1) (w .2)
       (Steps.rest-out Q (a .s) (few (looped (c .before .before))) (a .left - 1) (a .bound) (l .k) (omega arith)
@@ -466,9 +493,9 @@ pub +walk-spec : {M : Type 1} → statement M
     (array-read-e τ)
     (mul-if3 τ)
     (add-if3 τ)
-    (bound-of-requires τ)
     (child-of-requires τ)
-    (enters-requires-2 τ)
+    (covers-requires τ)
+    (bound-of-requires τ)
     (sub-walk τ)
     (walk-requires τ)
     (smaller-requires τ)

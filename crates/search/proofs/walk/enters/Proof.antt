@@ -10,28 +10,14 @@ timestamp-of-requires c κs = search needs
 wide-requires : tie.Need-wide-requires
 wide-requires c κs = search needs
 
-radius-of-requires : tie.Need-radius-of-requires
-radius-of-requires c κs = search needs
-
-wide-requires-2 : tie.Need-wide-requires-2
-wide-requires-2 c κs = search needs
-
-add-covered : tie.Need-add-covered
-add-covered c = search needs
+covers-requires : tie.Need-covers-requires
+covers-requires c κs = search needs
 
 returns : tie.Need-returns
 returns c =
-    let e = c .before .before .wide .ensures .0 ∙ c .before .before .before .timestamp-of .ensures in
-    let f = c .wide2 .ensures .0 ∙ c .before .radius-of .ensures in
+    let e = c .before .wide .ensures .0 ∙ c .before .before .timestamp-of .ensures in
+    let f = c .covers .ensures in
     rw (e, f)
 
 pub enters-spec : {M : Type 1} → statement M
-enters-spec =
-    tie.close
-    (tie.spec
-    timestamp-of-requires
-    wide-requires
-    radius-of-requires
-    wide-requires-2
-    add-covered
-    returns)
+enters-spec = tie.close (tie.spec timestamp-of-requires wide-requires covers-requires returns)
