@@ -15,7 +15,8 @@ use borrow.Fn.Kinds.{In}
 use borrow.Fn.PlainCycle.{Measures, is, falls, and}
 use Rattle.distance.specs.Laws.{farthest}
 use Rattle.table.specs.Record.{recordOf, slot}
-use Rattle.search.specs.Walk.{Stands, isCovered, isEntered, cardWithin, State, state, query, smallestTo, childBound, enteredFrom, after}
+use Rattle.search.specs.Walk.{Stands, isCovered, isEntered, cardWithin, State, state, query, smallestTo}
+use Rattle.search.specs.Walk.{childBound, enteredFrom, after}
 use Rattle.search.specs.declared.walk.Reached.{Reached}
 use Rattle.search.proofs.Steps
 use Rattle.search.proofs.Steps.{cases, slots-length, smallest-more, smallest-same, smallest-at-most}
@@ -129,7 +130,8 @@ module _ (τ : ℕ) where
   children-of-requires c κs = search needs
 
   -- a table that can be walked has no record with more than eight children
-  eight : (c : walk-lts.After-children-of (Known τ) (walk-at τ) walk.Post Inv-loop μ-loop) → c .children-of .result ≤ 8
+  eight :
+      (c : walk-lts.After-children-of (Known τ) (walk-at τ) walk.Post Inv-loop μ-loop) → c .children-of .result ≤ 8
   eight c =
       let p = opened c .pre .1 .0 in
       omega (arith, c .children-of .ensures, p .0 .few _ (p .1))
