@@ -12,6 +12,7 @@ use Rattle.places.specs.Choice.{pick, and-left, and-right}
 use Rattle.table.specs.Record.{Record, recordOf}
 use Rattle.table.specs.Table.{rightSize, recordsIn, recordsOf, at}
 use Rattle.table.specs.Records.{records-length}
+use Rattle.table.specs.Size.{whole, rows-are}
 use Rattle.judge.specs.WellFormed.{WellFormed, wellFormed}
 use Rattle.judge.specs.Decided.{formed-decided}
 use Rattle.survey.specs.Survey.{slotOfCard}
@@ -20,7 +21,6 @@ use Rattle.view.specs.Shaped.{Shaped, shaped-bytes}
 use Rattle.view.specs.Refusal.{SIZE, TABLE, ARGUMENT, ABSENT, CLOCK, firstOf, knownArity, done}
 use Rattle.insert.specs.Insert.{Outcome, refused}
 use Rattle.insert.specs.Refusals.{early, Early, early-passed}
-use Rattle.insert.specs.Accepted.{size-records, size-few, rows-are}
 use Rattle.delete.specs.Delete.{clockWouldPass, refusalOf, deleteOf}
 use Rattle.delete.specs.Leaving.{Held}
 use Rattle.delete.specs.Plan.{outcomeAt}
@@ -99,13 +99,14 @@ module _ (l : List ℕ) (card arity : ℕ) where
     pub present-held : v < n → Held (recordsOf l) v
     present-held h =
         let right = tests .size-right in
+        let size = whole (length l) right in
         let same = rows-are l right in
         let formed : WellFormed n (recordOf l) = formed-decided n (recordOf l) .shows (tests .table-formed) in
-        let shape : Shaped n (recordOf l) = shaped-bytes n l (size-records l right) in
+        let shape : Shaped n (recordOf l) = shaped-bytes n l (size .0) in
         let some = leb-true 1 card (and-left (leb 1 card) (knownArity arity) (tests .arguments-right)) in
         let here : recordOf l v .card ≡ card = slot-has-card n (recordOf l) card h in
         record {
-          small = rw (records-length l) (size-few l right);
+          small = rw (records-length l) (size .1);
           shaped = rw (records-length l) (subst (λ (R : ℕ → Record). Shaped n R) (sym same) shape);
           well-formed = rw (records-length l) (subst (λ (R : ℕ → Record). WellFormed n R) (sym same) formed);
           used = omega (arith, some, here, ap (λ (R : ℕ → Record). R v .card) same);

@@ -17,6 +17,7 @@ use Rattle.distance.specs.Edges.{P10 as readings-apart, P11 as masks-apart}
 use Rattle.order.specs.Order.{inOrder, placed as placedKey}
 use Rattle.table.specs.Record.{Record, free, recordOf}
 use Rattle.table.specs.Table.{at, recordsOf}
+use Rattle.table.specs.Size.{rows-are}
 use Rattle.table.specs.Put.{putRadius}
 use Rattle.judge.specs.WellFormed.{wellFormed, isFree, isFilled, pastCount, allFormed, distinct, oneKind, oneRoot}
 use Rattle.judge.specs.WellFormed.{allHung, allOwned, allRising}
@@ -30,7 +31,6 @@ use Rattle.tree.specs.Insert.{path, last, nearest, onward, hangs}
 use Rattle.view.specs.Refusal.{otherKind}
 use Rattle.view.specs.Place.{Newcomer, placed, asRoot, hanging, hangingFrom, raisedAlong, raised, adopting, fresh}
 use Rattle.insert.specs.Insert.{rightArguments}
-use Rattle.insert.specs.Accepted.{rows-are}
 use Rattle.search.specs.Search.{entered, cards, distances}
 use Rattle.delete.specs.Delete.{deleted, putBack, waiting, leaving, removed, freedAt, unhung, disowning, clockWouldPass}
 use Rattle.soundness.specs.Soundness.{isSound, allCovered, allNear, allIn, checkOf}

@@ -1,22 +1,20 @@
 -- Where that holds which is asked of a table after every history (`Holds`): in a cleared table, and in the bytes of a
 -- row of records that they hold (`table-holds`). Assumes nothing.
-use Prim.Native.Nat.{ℕ, _*_, _%_, _≤_}
+use Prim.Native.Nat.{ℕ, _*_, _≤_}
 use mathlib.Core.Path.{_≡_, ap, subst, _∙_}
-use mathlib.Core.Bool.{true, _&&_}
+use mathlib.Core.Bool.{true}
 use mathlib.Core.Logic.{_↔_}
 use mathlib.Core.List.{List, [], List·Memᴰ, List·Memᴰ·not-nil}
 use native.Mathlib.Omega.{arith}
-use lib.Dec.{leb, eqb}
 use lib.ListN.{length, replicate, length-replicate, getD-replicate, List·getD-eq-default}
-use borrow.Author.Tests.{le-leb, eq-eqb}
-use Rattle.places.specs.Choice.{and-both}
 use Rattle.number.specs.Frame.{Bytes}
 use Rattle.table.specs.Record.{Record, Used, recordOf, mostRecords}
 use Rattle.table.specs.Table.{rightSize, recordsIn, recordsOf, at, bytesOf}
 use Rattle.table.specs.Cases.{below-or}
 use Rattle.table.specs.Same.{all-free}
 use Rattle.table.specs.Records.{records-at}
-use Rattle.table.specs.RoundTrip.{FittingRow, row-fits}
+use Rattle.table.specs.Size.{right-size}
+use Rattle.table.specs.RoundTrip.{FittingRow, row-fits, bytesOf-length, bytesOf-bytes}
 use Rattle.judge.specs.WellFormed.{WellFormed}
 use Rattle.tree.specs.Slots.{Distinct}
 use Rattle.view.specs.Place.{Newcomer}
@@ -25,7 +23,6 @@ use Rattle.view.specs.Formed.{free-formed}
 use Rattle.view.specs.Sound.{SoundTable}
 use Rattle.history.specs.History.{State, cleared}
 use Rattle.history.specs.Demands.{Holds, cardsOf}
-use Rattle.history.specs.BytesOf.{bytes-length, bytes-bytes}
 
 -- ---- a cleared table
 
@@ -67,15 +64,6 @@ cleared-holds n = zeros-hold n
 
 -- ---- the size
 
-right-size : (n : ℕ) → 1 ≤ n → n ≤ mostRecords → rightSize (n * 64) ≡ true
-unfolding rightSize
-right-size n some small =
-    and-both (leb 64 (n * 64) && leb (n * 64) 65536) (eqb (n * 64 % 64) 0)
-    (and-both (leb 64 (n * 64)) (leb (n * 64) 65536)
-    (le-leb 64 (n * 64) (omega arith))
-    (le-leb (n * 64) 65536 (omega arith)))
-    (eq-eqb (n * 64 % 64) 0 (omega arith))
-
 -- no call refuses such a table for its size
 pub sized : {n : ℕ} {st : State} → 1 ≤ n → n ≤ mostRecords → Holds n st → rightSize (length (st .table)) ≡ true
 sized {n} some small h = rw (h .size) (right-size n some small)
@@ -95,9 +83,9 @@ pub table-holds :
     → Distinct (cardsOf stored)
     → Holds n (record { table = t; stored = stored })
 table-holds {n} t rows stored is back e ok each once =
-    let bytes : Bytes t = rw is (bytes-bytes rows) in
+    let bytes : Bytes t = rw is (bytesOf-bytes rows) in
     let fit : FittingRow rows = subst FittingRow back (row-fits t bytes) in
-    let long : length t ≡ length rows * 64 = ap length is ∙ bytes-length rows fit in
+    let long : length t ≡ length rows * 64 = ap length is ∙ bytesOf-length rows fit in
     let same : at (recordsOf t) ≡ recordOf t = λ i s. records-at t (omega arith) s i in
     record {
       size = omega arith;

@@ -12,6 +12,7 @@ use borrow.Author.Tests.{eq-eqb, ne-eqb}
 use Rattle.number.specs.Frame.{Bytes}
 use Rattle.table.specs.Record.{recordOf, mostRecords}
 use Rattle.table.specs.Table.{rightSize, recordsIn, recordsOf, at}
+use Rattle.table.specs.Size.{rows-are}
 use Rattle.table.specs.Clear.{clear-done}
 use Rattle.survey.specs.Survey.{slotOfCard}
 use Rattle.tree.specs.Slots.{_∈_, Distinct, either}
@@ -19,7 +20,7 @@ use Rattle.view.specs.Refusal.{done}
 use Rattle.view.specs.Place.{Newcomer}
 use Rattle.view.specs.Stored.{Stored, brought-card}
 use Rattle.insert.specs.Insert.{inserted, insertOf}
-use Rattle.insert.specs.Accepted.{comer, rows-are, accepted-ready}
+use Rattle.insert.specs.Accepted.{comer, accepted-ready}
 use Rattle.insert.specs.Promises as Inserts
 use Rattle.delete.specs.Delete.{deleted, deleteOf}
 use Rattle.delete.specs.Promises as Deletes

@@ -3,7 +3,6 @@
 pub mod History
 pub mod Demands
 pub mod Images
-pub mod BytesOf
 pub mod Refused
 pub mod Holds
 pub mod Kept

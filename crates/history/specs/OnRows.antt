@@ -20,6 +20,7 @@ use Rattle.table.specs.Put.{putRadius, withRadius}
 use Rattle.table.specs.Laws.{put-radius}
 use Rattle.table.specs.Same.{all-free}
 use Rattle.table.specs.Records.{records-length, records-in}
+use Rattle.table.specs.Size.{rows-are}
 use Rattle.table.specs.Clear.{clear-done}
 use Rattle.judge.specs.WellFormed.{wellFormed}
 use Rattle.judge.specs.Decided.{formed-decided}
@@ -29,7 +30,7 @@ use Rattle.view.specs.Refusal.{knownArity, otherKind, done}
 use Rattle.view.specs.Place.{Newcomer, Placed, placed}
 use Rattle.insert.specs.Insert.{changed, refused, inserted, rightArguments, lastTimestamp}
 use Rattle.insert.specs.Insert as Insert
-use Rattle.insert.specs.Accepted.{comer, rows-are}
+use Rattle.insert.specs.Accepted.{comer}
 use Rattle.insert.specs.Promises as Inserts
 use Rattle.delete.specs.Delete.{deleted, clockWouldPass}
 use Rattle.delete.specs.Delete as Delete

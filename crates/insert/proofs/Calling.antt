@@ -4,6 +4,7 @@ use Prim.Native.Nat.{ℕ, _%_}
 use mathlib.Core.Bool.{Bool}
 use mathlib.Core.Path.{_≡_, sym, ap, ap₂, _∙_}
 use mathlib.Core.List.{List}
+use native.Mathlib.Omega.{arith}
 use lib.ListN.{length}
 use borrow.Author.Tests.{eq-eqb, ne-eqb}
 use Rattle.places.specs.Choice.{pick}
@@ -12,6 +13,7 @@ use Rattle.distance.specs.Signature.{readingsAt, readings-fit}
 use Rattle.distance.specs.Kind.{apart}
 use Rattle.table.specs.Record.{recordOf}
 use Rattle.table.specs.Table.{recordsIn, recordsOf}
+use Rattle.table.specs.Size.{whole}
 use Rattle.table.specs.RoundTrip.{bytes-back}
 use Rattle.survey.specs.declared.Findings.{Findings}
 use Rattle.survey.specs.Survey.{slotOfCard}
@@ -20,7 +22,7 @@ use Rattle.view.specs.Refusal.{done, otherKind}
 use Rattle.view.specs.Place.{Newcomer, placed}
 use Rattle.insert.specs.Insert.{Outcome, refused, changed, refusalOf, inserted, insertOf}
 use Rattle.insert.specs.Refusals.{lateBy, lateOf}
-use Rattle.insert.specs.Accepted.{comer, accepted-size, accepted-ready, accepted-clock, size-whole}
+use Rattle.insert.specs.Accepted.{comer, accepted-size, accepted-ready, accepted-clock}
 use Rattle.insert.specs.Newcomer.{newcomer}
 use Rattle.insert.specs.Hang.{leaves}
 use Rattle.insert.specs.Placeable.{Placeable}
@@ -80,14 +82,14 @@ module _ (l : List ℕ) (card kind arity : ℕ) (s : List ℕ) where
     unfolding insertOf changed inserted
     ends-placed j r bytes-j long e =
         let right = accepted-size l card kind arity s none in
-        let whole : length j % 64 ≡ 0 = ap (λ (k : ℕ). k % 64) long ∙ size-whole l right in
+        let even : length j % 64 ≡ 0 = omega (arith, long, whole (length l) right .0) in
         let p : leaves j r ≡ inserted l card kind arity s =
         e
         ∙ ap₂
         (λ (i : ℕ) (z : Newcomer). placed (apart kind) arity i z (recordsOf l))
         (answers .lowest)
         (sym same-comer) in
-        ap (λ (k : List ℕ). record { refusal = done; count = r; table = k }) (sym (bytes-back j bytes-j whole))
+        ap (λ (k : List ℕ). record { refusal = done; count = r; table = k }) (sym (bytes-back j bytes-j even))
         ∙ ap changed p
         ∙ ap
         (λ (t : Bool). pick t (changed (inserted l card kind arity s)) (refused (refusalOf l card kind arity s) l))

@@ -13,6 +13,7 @@ use Rattle.distance.specs.Kind.{apart}
 use Rattle.table.specs.Record.{Record, Used, free, recordOf, noSlot}
 use Rattle.table.specs.Table.{recordsIn, recordsOf, at}
 use Rattle.table.specs.Records.{records-at}
+use Rattle.table.specs.Size.{whole, rows-are}
 use Rattle.table.specs.Laws.{Became, became-then}
 use Rattle.judge.specs.WellFormed.{WellFormed}
 use Rattle.survey.specs.declared.Findings.{Findings}
@@ -28,7 +29,6 @@ use Rattle.insert.specs.Newcomer.{named}
 use Rattle.insert.specs.Descent.{Stands}
 use Rattle.insert.specs.Hang.{Hangable}
 use Rattle.insert.specs.Hangable.{formed-walkable, walkable-same, hangable}
-use Rattle.insert.specs.Accepted.{size-most, size-whole, rows-are}
 use Rattle.insert.specs.Placeable.{Placeable}
 
 module _ {l : List ℕ} {f : Findings} {x : Newcomer} {arity : ℕ} (ok : Placeable l f x arity) where
@@ -119,6 +119,7 @@ module _ {l : List ℕ} {f : Findings} {x : Newcomer} {arity : ℕ} (ok : Placea
 
       pub named-hangable : Hangable m (x .kind) arity s (f .root) (f .used)
       named-hangable =
+          let size = whole (length l) (ok .size) in
           let wf : WellFormed n (recordOf l) = subst (WellFormed n) (rows-are l (ok .size)) (ok .ready .well-formed) in
           rw (answers .root, answers .used)
           (hangable
@@ -127,8 +128,8 @@ module _ {l : List ℕ} {f : Findings} {x : Newcomer} {arity : ℕ} (ok : Placea
           s
           rows
           waits
-          (walkable-same (written .same-length) counts slots (formed-walkable l (size-whole l (ok .size)) wf))
-          (omega (arith, written .same-length, size-most l (ok .size)))
+          (walkable-same (written .same-length) counts slots (formed-walkable l (omega (arith, size .0)) wf))
+          (omega (arith, written .same-length, size .0, size .1))
           named-stands
           (ok .ready .arity-to-8)
           agree
@@ -179,8 +180,8 @@ module _ {l : List ℕ} {f : Findings} {x : Newcomer} {arity : ℕ} (ok : Placea
           → p ≡ hanging (apart (x .kind)) arity s (brought (at (recordsOf m) s)) (recordsOf m) next (f .used) (f .root)
           → p ≡ placed (apart (x .kind)) arity s x rows
       placed-later p e =
-          let whole : length m % 64 ≡ 0 = ap (λ (k : ℕ). k % 64) (written .same-length) ∙ size-whole l (ok .size) in
-          let comes : brought (at (recordsOf m) s) ≡ x = ap brought (records-at m whole s) ∙ named-newcomer in
+          let even : length m % 64 ≡ 0 = omega (arith, written .same-length, whole (length l) (ok .size) .0) in
+          let comes : brought (at (recordsOf m) s) ≡ x = ap brought (records-at m even s) ∙ named-newcomer in
           e
           ∙ ap (λ (y : Newcomer). hanging (apart (x .kind)) arity s y (recordsOf m) next (f .used) (f .root)) comes
           ∙ same-hanging

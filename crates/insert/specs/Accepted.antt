@@ -1,6 +1,6 @@
 -- An insert that is not refused: its newcomer may be put into the lowest free slot (`accepted-ready`), and its
 -- timestamp fits. Assumes nothing.
-use Prim.Native.Nat.{ℕ, _*_, _%_, _≤_, _<_}
+use Prim.Native.Nat.{ℕ, _≤_, _<_}
 use mathlib.Core.Bool.{Bool, true, false, _&&_, _||_, not, false≢true}
 use mathlib.Core.Path.{_≡_, refl, sym, ap, _∙_, subst}
 use mathlib.Core.Logic.{_⊎_, inl, inr}
@@ -14,7 +14,8 @@ use Rattle.places.specs.Choice.{and-left, and-right}
 use Rattle.distance.specs.Signature.{readingsAt, readings-length}
 use Rattle.table.specs.Record.{Record, Used, recordOf}
 use Rattle.table.specs.Table.{rightSize, recordsIn, recordsOf, at}
-use Rattle.table.specs.Records.{records-at, records-length}
+use Rattle.table.specs.Records.{records-length}
+use Rattle.table.specs.Size.{whole, rows-are}
 use Rattle.judge.specs.WellFormed.{WellFormed, wellFormed}
 use Rattle.judge.specs.Decided.{formed-decided}
 use Rattle.survey.specs.Survey.{usedIn, kindOf, slotOfCard, lowestFree, largestTimestamp}
@@ -39,33 +40,6 @@ or-cases false q e = inr e
 and-false : (p q : Bool) → p && q ≡ false → p ≡ true → q ≡ false
 and-false true q e y = e
 and-false false q e y = absurd (false≢true y)
-
--- ---- a table of the right size
-
-module _ (l : List ℕ) (right : rightSize (length l) ≡ true) where
-  pub size-most : length l ≤ 65536
-  unfolding rightSize
-  size-most =
-      let both = and-left (leb 64 (length l) && leb (length l) 65536) (eqb (length l % 64) 0) right in
-      leb-true (length l) 65536 (and-right (leb 64 (length l)) (leb (length l) 65536) both)
-
-  pub size-whole : length l % 64 ≡ 0
-  unfolding rightSize
-  size-whole =
-      eqb-true
-      (length l % 64)
-      0
-      (and-right (leb 64 (length l) && leb (length l) 65536) (eqb (length l % 64) 0) right)
-
-  pub size-records : length l ≡ recordsIn l * 64
-  size-records = omega (arith, size-whole)
-
-  pub size-few : recordsIn l ≤ 1024
-  size-few = omega (arith, size-most)
-
-  -- its rows are its bytes' records, in every slot
-  pub rows-are : at (recordsOf l) ≡ recordOf l
-  rows-are i a = records-at l size-whole a i
 
 -- ---- an accepted insert
 
@@ -163,11 +137,12 @@ module _ (l : List ℕ) (card kind arity : ℕ) (s : List ℕ) (none : refusalOf
   pub accepted-ready : Ready n arity (lowestFree n R) (comer card kind s) (recordsOf l)
   accepted-ready =
       let rows = rows-are l accepted-size in
-      let same : (a : ℕ) → at (recordsOf l) a ≡ R a = records-at l (size-whole l accepted-size) in
+      let size = whole (length l) accepted-size in
+      let same : (a : ℕ) → at (recordsOf l) a ≡ R a = λ a. ap (λ (S : ℕ → Record). S a) rows in
       record {
         length-is = records-length l;
-        small = size-few l accepted-size;
-        shaped = subst (Shaped n) (sym rows) (shaped-bytes n l (size-records l accepted-size));
+        small = size .1;
+        shaped = subst (Shaped n) (sym rows) (shaped-bytes n l (size .0));
         well-formed = subst (WellFormed n) (sym rows) accepted-formed;
         slot-within = accepted-slot;
         slot-free = ap (λ (r : Record). r .card) (same (lowestFree n R)) ∙ lowest-no-card n R accepted-slot;

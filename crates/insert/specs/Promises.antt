@@ -16,6 +16,7 @@ use Rattle.distance.specs.Kind.{apart}
 use Rattle.table.specs.Record.{Record, recordOf}
 use Rattle.table.specs.Table.{recordsIn, recordsOf, at}
 use Rattle.table.specs.Records.{records-length}
+use Rattle.table.specs.Size.{rows-are}
 use Rattle.table.specs.RoundTrip.{row-fits, rows-back}
 use Rattle.judge.specs.WellFormed.{WellFormed}
 use Rattle.survey.specs.Survey.{lowestFree, largestTimestamp}
@@ -26,7 +27,7 @@ use Rattle.view.specs.Place.{Newcomer, placed}
 use Rattle.view.specs.Place.Settled.{Ready}
 use Rattle.view.specs.Place.Keeps.{placed-length, placed-settled, placed-sound-table}
 use Rattle.insert.specs.Insert.{Outcome, refused, changed, lastTimestamp, refusalOf, inserted, insertOf}
-use Rattle.insert.specs.Accepted.{comer, accepted-size, accepted-ready, accepted-clock, rows-are}
+use Rattle.insert.specs.Accepted.{comer, accepted-size, accepted-ready, accepted-clock}
 use Rattle.insert.specs.Fits.{placed-fits}
 
 -- the record in each slot of a table

@@ -1,6 +1,6 @@
 -- What a search may rely on once the tests of size and table are passed: the table can be walked, its view is one that
 -- the tree's theorems speak of, and what is listed and counted is no more than the used records. Assumes nothing.
-use Prim.Native.Nat.{ℕ, _*_, _%_, _^_, _≤_, _<_}
+use Prim.Native.Nat.{ℕ, _^_, _≤_, _<_}
 use mathlib.Core.Path.{_≡_, refl, sym, ap, _∙_}
 use mathlib.Core.Bool.{Bool, true, false, _&&_, not}
 use mathlib.Core.List.{List, [], _∷_}
@@ -10,19 +10,19 @@ use lib.Dec.{leb, ltb, eqb}
 use native.Mathlib.Nat.{zero-add}
 use lib.ListN.{length, length-append}
 use lib.Seq.{sets}
-use borrow.Author.Tests.{eq-eqb, ne-eqb, leb-true, eqb-true, ltb-false, not-false, lt-ltb}
-use Rattle.places.specs.Sum.{sum-at-most}
-use Rattle.places.specs.Count.{one-at-most, count-sum}
-use Rattle.places.specs.Choice.{pick, and-left, and-right}
+use borrow.Author.Tests.{eq-eqb, ne-eqb, eqb-true, ltb-false, not-false, lt-ltb}
+use Rattle.places.specs.Choice.{pick, and-right}
 use Rattle.number.specs.Frame.{Bytes, number-lt}
 use Rattle.distance.specs.Laws.{farthest}
 use Rattle.distance.specs.Signature.{Fit, readings-fit}
 use Rattle.distance.specs.Kind.{apart, apart-distance}
-use Rattle.table.specs.Record.{Record, used, recordOf, mostRecords, timestampAt, signatureAt}
+use Rattle.table.specs.Record.{Record, recordOf, timestampAt, signatureAt}
 use Rattle.table.specs.Table.{rightSize, recordsIn}
+use Rattle.table.specs.Size.{whole}
 use Rattle.judge.specs.WellFormed.{WellFormed, wellFormed}
 use Rattle.judge.specs.Decided.{formed-decided}
 use Rattle.survey.specs.Survey.{usedIn, rootOf, kindOf}
+use Rattle.survey.specs.Laws.{used-at-most as usedIn-most}
 use Rattle.tree.specs.Slots.{either, keep}
 use Rattle.tree.specs.View.{View, Formed, Late, usedCount, distanceCount}
 use Rattle.tree.specs.View.Count.{used-at-most}
@@ -75,26 +75,17 @@ accepted l kind s m e =
 
 -- ---- the table
 
--- a table of the right size holds whole records
-pub whole : (l : List ℕ) → rightSize (length l) ≡ true → (length l ≡ recordsIn l * 64) × (recordsIn l ≤ mostRecords)
-unfolding rightSize
-whole l h =
-    let range = and-left (leb 64 (length l) && leb (length l) 65536) _ h in
-    let most = leb-true (length l) 65536 (and-right (leb 64 (length l)) _ range) in
-    let even = eqb-true (length l % 64) 0 (and-right (leb 64 (length l) && leb (length l) 65536) _ h) in
-    (omega arith, omega arith)
-
 module _ {l : List ℕ} (ok : Readable l) where
   pub well : WellFormed (recordsIn l) (recordOf l)
   well = formed-decided (recordsIn l) (recordOf l) .shows (ok .formed)
 
   pub shape : Shaped (recordsIn l) (recordOf l)
-  shape = shaped-bytes (recordsIn l) l (whole l (ok .size) .0)
+  shape = shaped-bytes (recordsIn l) l (whole (length l) (ok .size) .0)
 
   pub seen :
       1 ≤ usedIn (recordsIn l) (recordOf l)
       → Formed (viewOf (recordOf l)) (recordsIn l) (rootOf (recordsIn l) (recordOf l))
-  seen = formed-view (whole l (ok .size) .1) shape well
+  seen = formed-view (whole (length l) (ok .size) .1) shape well
 
   pub walkable : Walkable l
   walkable =
@@ -110,17 +101,13 @@ module _ {l : List ℕ} (ok : Readable l) where
             either
             (free-or-used shape (well .free-if-no-card) s)
             (λ e. absurd (omega (arith, ap (λ (r : Record). r .count) e)))
-            (λ z. omega (arith, whole l (ok .size) .0, well .owned s i (z .0) (z .1) b .child-in));
+            (λ z. omega (arith, whole (length l) (ok .size) .0, well .owned s i (z .0) (z .1) b .child-in));
       }
 
 -- the root of a used table stands in it
 pub root-stands :
     {l : List ℕ} (ok : Readable l) → 1 ≤ usedIn (recordsIn l) (recordOf l) → Stands l (rootOf (recordsIn l) (recordOf l))
-root-stands {l} ok some = omega (arith, whole l (ok .size) .0, rootOf-is (recordsIn l) (recordOf l) (well ok) some .0)
-
-used-few : (n : ℕ) (R : ℕ → Record) → usedIn n R ≤ n
-unfolding usedIn
-used-few n R = rw (count-sum n (λ s. used (R s))) (omega (arith, sum-at-most n 1 (λ k. _) (λ k. one-at-most (used (R k)))))
+root-stands {l} ok some = omega (arith, whole (length l) (ok .size) .0, rootOf-is (recordsIn l) (recordOf l) (well ok) some .0)
 
 -- four bytes hold no timestamp that the walk's first bound cuts off
 pub unbounded : (l : List ℕ) → Bytes l → Late (viewOf (recordOf l)) noBound
@@ -249,5 +236,5 @@ module _ {l : List ℕ} (ok : Readable l) (bytes : Bytes l) (kind : ℕ) (q : Li
   walk-fits = (
     cards-fit (recordsIn l) (recordOf l) kind q r (seen ok),
     distances-fit (recordsIn l) (recordOf l) kind q r (seen ok),
-    omega (arith, used-few (recordsIn l) (recordOf l), whole l (ok .size) .1),
+    omega (arith, usedIn-most (recordsIn l) (recordOf l), whole (length l) (ok .size) .1),
   )

@@ -1,17 +1,15 @@
 -- What the check call uses of its definition: each refusal in its place, and the route for the paper's words where the
 -- table is of the right size and well formed. And what its answer says: done exactly if the table is sound.
 -- Assumes nothing.
-use Prim.Native.Nat.{ℕ, _*_, _/_, _%_, _≤_}
+use Prim.Native.Nat.{ℕ}
 use mathlib.Core.Path.{_≡_, refl}
-use mathlib.Core.Bool.{Bool, true, false, _&&_, not}
+use mathlib.Core.Bool.{Bool, true, false, not}
 use mathlib.Core.List.{List, [], _∷_}
 use native.Mathlib.Omega.{arith}
-use lib.Dec.{leb}
 use lib.ListN.{length}
-use borrow.Author.Tests.{leb-true, eqb-true}
-use Rattle.places.specs.Choice.{and-left, and-right}
-use Rattle.table.specs.Record.{recordOf, mostRecords}
+use Rattle.table.specs.Record.{recordOf}
 use Rattle.table.specs.Table.{rightSize, recordsIn}
+pub use Rattle.table.specs.Size.{whole}
 use Rattle.judge.specs.WellFormed.{wellFormed}
 use Rattle.judge.specs.Decided.{formed-decided}
 use Rattle.view.specs.Refusal.{SIZE, TABLE, LOOSE, done, firstOf}
@@ -22,15 +20,6 @@ use Rattle.soundness.specs.Decided.{sound-decided}
 use Rattle.soundness.specs.Climb.{route}
 use Rattle.soundness.specs.Route.{route-is}
 use Rattle.soundness.specs.Stands.{Whole}
-
--- a table of the right size holds whole records, at most 1,024 of them
-pub whole : (n : ℕ) → rightSize n ≡ true → (n ≡ n / 64 * 64) × (n / 64 ≤ mostRecords)
-unfolding rightSize
-whole n h =
-    let range = and-left (leb 64 n && leb n 65536) _ h in
-    let most = leb-true n 65536 (and-right (leb 64 n) _ range) in
-    let even = eqb-true (n % 64) 0 (and-right (leb 64 n && leb n 65536) _ h) in
-    (omega arith, omega arith)
 
 module _ (l : List ℕ) where
   pub check-size : rightSize (length l) ≡ false → checkOf l ≡ SIZE

@@ -4,11 +4,12 @@ pub mod Record
 pub mod Table
 pub mod Put
 pub mod Clear
--- Laws: bytes and the records they hold, what each write does, and back again.
+-- Laws: bytes and the records they hold, the right size, what each write does, and back again.
 pub mod Cases
 pub mod Span
 pub mod Same
 pub mod Records
+pub mod Size
 pub mod Run
 pub mod Laws
 pub mod RoundTrip

@@ -197,7 +197,7 @@ module _ (r : Record) (fit : Fitting r) where
 
 -- ---- rows of records
 
-bytesOf-length : (rows : List Record) → FittingRow rows → length (bytesOf rows) ≡ length rows * 64
+pub bytesOf-length : (rows : List Record) → FittingRow rows → length (bytesOf rows) ≡ length rows * 64
 unfolding bytesOf
 bytesOf-length [] fit = refl
 bytesOf-length (r ∷ rs) fit =
@@ -253,7 +253,7 @@ record-bytes r =
     more : (l : List ℕ) → Bytes l → (n : ℕ) (vs : List ℕ) → Bytes (l ++ numbers n vs)
     more l h n vs = append-bytes l (numbers n vs) h (numbers-bytes n vs)
 
-bytesOf-bytes : (rows : List Record) → Bytes (bytesOf rows)
+pub bytesOf-bytes : (rows : List Record) → Bytes (bytesOf rows)
 unfolding bytesOf
 bytesOf-bytes [] = λ i. omega arith
 bytesOf-bytes (r ∷ rs) = append-bytes (bytesOfRecord r) (bytesOf rs) (record-bytes r) (bytesOf-bytes rs)

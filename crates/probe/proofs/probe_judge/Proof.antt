@@ -1,8 +1,8 @@
 -- `probe::probe_judge` meets its contract: the two tests are the definition's. Assumes nothing.
 use mathlib.Core.Path.{sym, _∙_}
 use lib.ListN.{length}
+use Rattle.table.specs.Size.{whole}
 use Rattle.probe.specs.Probe.{judgeProbe}
-use Rattle.probe.specs.Tells.{right-size-sized}
 use native.Mathlib.Omega.{arith}
 use borrow.Author.Needs.{needs}
 use Rattle.probe.proofs.probe_judge.Statement.{statement}
@@ -14,8 +14,8 @@ right-size-requires c κs = search needs
 well-formed-requires : tie.Need-well-formed-requires
 well-formed-requires c κs =
     let l = c .before .before .before .args .t .now in
-    let sized = right-size-sized (length l) (sym (c .before .right-size .ensures) ∙ c .if1 .taken) in
-    (omega (arith, sized .whole), omega (arith, sized .few))
+    let size = whole (length l) (sym (c .before .right-size .ensures) ∙ c .if1 .taken) in
+    (omega (arith, size .0), omega (arith, size .1))
 
 returns : tie.Need-returns
 unfolding judgeProbe

@@ -1,12 +1,15 @@
--- `probe::tell` meets its contract: a judged table's survey has the answers, and slots and counts are at most 1,024. Assumes nothing.
+-- `probe::tell` meets its contract: a judged table's survey has the answers, and slots and counts are at most 1,024.
+-- Assumes nothing.
 use Prim.Native.Nat.{_≤_}
 use mathlib.Core.Path.{_≡_, sym, _∙_}
+use lib.ListN.{length}
 use Rattle.table.specs.Record.{recordOf}
 use Rattle.table.specs.Table.{recordsIn}
+use Rattle.table.specs.Size.{whole}
 use Rattle.survey.specs.Survey.{usedIn, lowestFree, rootOf, kindOf, largestTimestamp}
 use Rattle.survey.specs.Laws.{used-at-most, lowest-at-most, root-at-most}
 use Rattle.probe.specs.Probe.{judgeProbe}
-use Rattle.probe.specs.Tells.{judged-sized, asked-yes, asked-no}
+use Rattle.probe.specs.Tells.{judged-size, asked-yes, asked-no}
 use native.Mathlib.Omega.{arith}
 use borrow.Author.Needs.{needs}
 use Rattle.probe.proofs.tell.Statement.{statement}
@@ -17,13 +20,17 @@ judged : (c : tie.Then1) → judgeProbe (c .before .before .before .args .t .now
 judged c = sym (c .before .probe-judge .ensures) ∙ c .if1 .taken
 
 few : (c : tie.After-survey) → recordsIn (c .before .before .before .before .args .t .now) ≤ 1024
-few c = judged-sized (c .before .before .before .before .args .t .now) (judged (c .before)) .few
+few c =
+    let l = c .before .before .before .before .args .t .now in
+    whole (length l) (judged-size l (judged (c .before))) .1
 
 probe-judge-requires : tie.Need-probe-judge-requires
 probe-judge-requires c κs = search needs
 
 survey-requires : tie.Need-survey-requires
-survey-requires c κs = judged-sized (c .before .before .before .args .t .now) (judged c) .whole
+survey-requires c κs =
+    let l = c .before .before .before .args .t .now in
+    sym (whole (length l) (judged-size l (judged c)) .0)
 
 cast-t8 : tie.Need-cast-t8
 cast-t8 c =

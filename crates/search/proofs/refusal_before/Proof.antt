@@ -1,9 +1,10 @@
 -- `search::refusal_before` meets its contract: the branches are the tests of size, table and arguments, in that order.
 -- Assumes nothing.
 use mathlib.Core.Path.{sym, _∙_}
+use lib.ListN.{length}
 use borrow.Author.Tests.{not-true, not-false}
+use Rattle.table.specs.Size.{whole}
 use Rattle.search.specs.Tests.{refusalBefore}
-use Rattle.search.specs.Accepted.{whole}
 use native.Mathlib.Omega.{arith}
 use borrow.Author.Needs.{needs}
 use Rattle.search.proofs.refusal_before.Statement.{statement}
@@ -20,7 +21,7 @@ well-formed-requires : tie.Need-well-formed-requires
 well-formed-requires c κs =
     let w =
     whole
-    (c .before .before .before .before .args .t .now)
+    (length (c .before .before .before .before .args .t .now))
     (sym (c .before .right-size .ensures) ∙ not-false _ (c .if1 .left)) in
     (omega arith, w .1)
 

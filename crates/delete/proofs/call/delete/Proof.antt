@@ -1,13 +1,14 @@
--- `delete::call::delete` meets its contract: the call ends refused by the first tests, refused since the card is not stored, or as
--- it goes with the card's slot. Assumes nothing.
+-- `delete::call::delete` meets its contract: the call ends refused by the first tests, refused since the card is not
+-- stored, or as it goes with the card's slot. Assumes nothing.
 use Prim.Native.Nat.{ℕ, _≤_, _<_}
 use mathlib.Core.Path.{_≡_, sym, ap, _∙_}
-use Rattle.table.specs.Table.{recordsIn}
+use lib.ListN.{length}
 use Rattle.table.specs.Record.{recordOf}
+use Rattle.table.specs.Table.{recordsIn}
+use Rattle.table.specs.Size.{whole}
 use Rattle.survey.specs.Survey.{slotOfCard}
 use Rattle.view.specs.Refusal.{done}
 use Rattle.insert.specs.Refusals.{early-passed}
-use Rattle.insert.specs.Accepted.{size-records}
 use Rattle.delete.specs.Plan.{outcomeAt}
 use Rattle.delete.specs.Call.{earlyOf, same-numbers, early-refused, absent-refused, arity-few, present-held, present-done}
 use native.Mathlib.Omega.{arith}
@@ -66,7 +67,7 @@ delete-at-requires c κs =
     let p = passed (c .before .before .before .before) in
     let right = early-passed _ _ _ p .size-right in (
       rw (c .before .before .slot-of-card .ensures) (present-held l (a .card) (a .arity) p (stands (c .before))),
-      sym (size-records l right),
+      sym (whole (length l) right .0),
       arity-few l (a .card) (a .arity) p,
     )
 

@@ -1,8 +1,9 @@
 -- `delete::call::early_refusal` meets its contract: each test is made where those before it are passed. Assumes nothing.
 use mathlib.Core.Path.{sym, _∙_}
+use lib.ListN.{length}
 use borrow.Author.Tests.{not-true, not-false}
+use Rattle.table.specs.Size.{whole}
 use Rattle.insert.specs.Refusals.{early-size, early-table, early-argument, early-none}
-use Rattle.insert.specs.Accepted.{size-records, size-few}
 use native.Mathlib.Omega.{arith}
 use borrow.Author.Needs.{needs}
 use Rattle.delete.proofs.call.early_refusal.Statement.{statement}
@@ -18,7 +19,8 @@ well-formed-requires : tie.Need-well-formed-requires
 well-formed-requires c κs =
     let right = sym (c .before .right-size .ensures) ∙ not-false _ (c .if1 .left) in
     let l = c .before .before .before .args .t .now in
-    omega (arith, size-records l right, size-few l right)
+    let size = whole (length l) right in
+    omega (arith, size .0, size .1)
 
 returns-2 : tie.Need-returns-2
 returns-2 c =

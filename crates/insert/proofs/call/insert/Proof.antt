@@ -4,11 +4,13 @@ use Prim.Native.Nat.{ℕ}
 use mathlib.Core.Path.{_≡_, sym, _∙_}
 use native.Mathlib.Omega.{arith}
 use borrow.Author.Needs.{needs}
+use lib.ListN.{length}
 use Rattle.number.specs.Frame.{Bytes}
+use Rattle.table.specs.Size.{whole}
 use Rattle.view.specs.Refusal.{done}
 use Rattle.insert.specs.Insert.{refusalOf}
 use Rattle.insert.specs.Refusals.{earlyOf, lateOf, early-passed, refusal-early, refusal-late}
-use Rattle.insert.specs.Accepted.{size-records, accepted-signature}
+use Rattle.insert.specs.Accepted.{accepted-signature}
 use Rattle.insert.proofs.Calling.{ends-refused, late-found, found-placeable, ends-placed}
 use Rattle.insert.proofs.call.insert.Statement.{statement}
 use Rattle.insert.proofs.call.insert.Tie as tie
@@ -90,7 +92,7 @@ returns c =
 survey-requires : tie.Need-survey-requires
 survey-requires c κs =
     let a = from-early (c .before .before) .args in
-    sym (size-records (a .t .now) (early-passed _ _ _ (passed-first (c .before)) .size-right))
+    sym (whole (length (a .t .now)) (early-passed _ _ _ (passed-first (c .before)) .size-right) .0)
 
 slot-of-card-requires : tie.Need-slot-of-card-requires
 slot-of-card-requires c κs = search needs
