@@ -1,46 +1,14 @@
--- Writes into one record, one after another, as one change of that record (`then-with`), and what each of the
--- newcomer's changes comes to. Assumes nothing.
-use Prim.Native.Nat.{ℕ, zero, suc, _+_, _*_, _≤_, _<_, max}
+-- What each of the newcomer's changes of a record comes to: a radius, a child, and the eight child slots. Assumes nothing.
+use Prim.Native.Nat.{ℕ, zero, suc, _+_, _≤_, _<_, max}
 use mathlib.Core.Path.{_≡_, refl, sym, ap, _∙_}
 use mathlib.Core.List.{List}
 use native.Mathlib.Omega.{arith}
 use native.Mathlib.Numerals.{add-one}
 use lib.ListN.{length, set, replicate, length-set, length-replicate, getD-replicate}
-use lib.Seq.{set-getD}
 use Rattle.places.specs.Fill.{Filled, filled-more, filled-all}
-use Rattle.table.specs.Record.{Record, free, recordOf, noSlot}
-use Rattle.table.specs.Table.{recordsOf}
-use Rattle.table.specs.Records.{records-in}
+use Rattle.table.specs.Record.{Record, noSlot}
 use Rattle.table.specs.Put.{parts, withRadius, withSlot, withCount}
-use Rattle.table.specs.Laws.{Became, became-then}
 use Rattle.view.specs.Place.{raised, adopting}
-
--- ---- changes of one record
-
--- the same change, in other words
-pub became-by : {l m k : List ℕ} {s : ℕ} {r q : Record} → Became l s r m → r ≡ q → k ≡ m → Became l s q k
-became-by b e f = rw (f, ← e) b
-
--- no change
-pub became-none : (l : List ℕ) (s : ℕ) → s * 64 + 64 ≤ length l → Became l s (recordOf l s) l
-became-none l s h =
-    record {
-      same-length = refl;
-      bytes = λ b. b;
-      here = refl;
-      elsewhere = λ a ne. refl;
-      records =
-          sym (set-getD (recordsOf l) s free)
-          ∙ ap (λ (r : Record). set (recordsOf l) s r) (records-in l s (omega arith));
-    }
-
--- a change, and then one that makes f of the record
-pub then-with :
-    {l m k : List ℕ} {s : ℕ} {r : Record} (f : Record → Record)
-    → Became l s r m
-    → Became m s (f (recordOf m s)) k
-    → Became l s (f r) k
-then-with f b d = became-then b (became-by d (ap f (b .here)) refl)
 
 -- ---- a radius, and a child
 

@@ -10,12 +10,12 @@ use mathlib.Core.Bool.{Bool, true, false, _||_, false≢true}
 use lib.Dec.{leb}
 use borrow.Author.Tests.{le-leb, lt-leb, leb-true}
 use lib.ListN.{getD, set, length, length-set}
-use lib.Seq.{ext-getD, getD-set-same, getD-set-other, set-set}
+use lib.Seq.{ext-getD, getD-set-same, getD-set-other, set-set, set-getD}
 use Rattle.places.specs.Row.{row-same}
 use Rattle.number.specs.Number.{numberAt, withNumber}
 use Rattle.number.specs.Frame.{Bytes, Outside, with-length, with-outside, number-with, number-other, number-same}
 use Rattle.distance.specs.Signature.{Fit}
-use Rattle.table.specs.Record.{Record, free, recordOf, slot, slotsAt, signatureAt}
+use Rattle.table.specs.Record.{Record, free, recordOf, slotsAt, signatureAt}
 use Rattle.table.specs.Table.{recordsOf, recordsIn, at}
 use Rattle.table.specs.Span.{Alike, alike-within}
 use Rattle.table.specs.Cases.{below-or, equal-or}
@@ -72,6 +72,23 @@ pub records-with :
     → recordsOf m ≡ set (recordsOf l) s (f (at (recordsOf l) s))
 records-with {l} {m} {s} f b h = b .records ∙ ap (λ (r : Record). set (recordsOf l) s (f r)) (sym (records-in l s h))
 
+-- the same change, in other words
+pub became-by : {l m k : List ℕ} {s : ℕ} {r q : Record} → Became l s r m → r ≡ q → k ≡ m → Became l s q k
+became-by b e f = rw (f, ← e) b
+
+-- no change
+pub became-none : (l : List ℕ) (s : ℕ) → s * 64 + 64 ≤ length l → Became l s (recordOf l s) l
+became-none l s h =
+    record {
+      same-length = refl;
+      bytes = λ b. b;
+      here = refl;
+      elsewhere = λ a ne. refl;
+      records =
+          sym (set-getD (recordsOf l) s free)
+          ∙ ap (λ (r : Record). set (recordsOf l) s r) (records-in l s (omega arith));
+    }
+
 -- one write after another in the same slot
 pub became-then :
     {l m k : List ℕ} {s : ℕ} {r q : Record} → Became l s r m → Became m s q k → Became l s q k
@@ -83,6 +100,14 @@ became-then {l} {m} {k} {s} {r} {q} b d =
       elsewhere = λ a ne. d .elsewhere a ne ∙ b .elsewhere a ne;
       records = d .records ∙ ap (λ (rows : List Record). set rows s q) (b .records) ∙ set-set (recordsOf l) s r q;
     }
+
+-- and one that makes f of the record
+pub then-with :
+    {l m k : List ℕ} {s : ℕ} {r : Record} (f : Record → Record)
+    → Became l s r m
+    → Became m s (f (recordOf m s)) k
+    → Became l s (f r) k
+then-with f b d = became-then b (became-by d (ap f (b .here)) refl)
 
 -- ---- a run of bytes is changed
 

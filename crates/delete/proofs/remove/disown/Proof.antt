@@ -6,9 +6,8 @@ use lib.ListN.{length}
 use Rattle.table.specs.Record.{recordOf, noSlot}
 use Rattle.table.specs.Same.{slots-length}
 use Rattle.table.specs.Put.{withSlot, withCount}
-use Rattle.table.specs.Laws.{Became, put-slot, put-count}
+use Rattle.table.specs.Laws.{Became, put-slot, put-count, became-by, then-with}
 use Rattle.delete.specs.Closing.{withSlots, closing, disowning-is}
-use Rattle.delete.proofs.Writes.{became-by, then-with}
 use native.Mathlib.Omega.{arith}
 use borrow.Author.Needs.{needs}
 use Rattle.delete.proofs.remove.disown.Statement.{statement}

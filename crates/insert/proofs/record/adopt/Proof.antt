@@ -5,8 +5,8 @@ use mathlib.Core.Path.{refl}
 use lib.ListN.{length}
 use Rattle.table.specs.Record.{recordOf}
 use Rattle.table.specs.Put.{withSlot, withCount}
-use Rattle.table.specs.Laws.{Became, put-slot, put-count}
-use Rattle.insert.proofs.Writes.{became-by, then-with, adopting-is}
+use Rattle.table.specs.Laws.{Became, put-slot, put-count, became-by, then-with}
+use Rattle.insert.proofs.Writes.{adopting-is}
 use native.Mathlib.Omega.{arith}
 use borrow.Author.Needs.{needs}
 use Rattle.insert.proofs.record.adopt.Statement.{statement}

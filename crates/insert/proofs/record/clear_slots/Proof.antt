@@ -6,8 +6,8 @@ use lib.ListN.{length}
 use Rattle.table.specs.Record.{recordOf, noSlot}
 use Rattle.table.specs.Same.{slots-length}
 use Rattle.table.specs.Put.{withSlot}
-use Rattle.table.specs.Laws.{Became, put-slot}
-use Rattle.insert.proofs.Writes.{became-by, became-none, then-with, withSlots}
+use Rattle.table.specs.Laws.{Became, put-slot, became-by, became-none, then-with}
+use Rattle.insert.proofs.Writes.{withSlots}
 use Rattle.insert.proofs.Writes.{cleared, cleared-none, cleared-more, cleared-all}
 use native.Mathlib.Omega.{arith}
 use borrow.Author.Needs.{needs}

@@ -4,8 +4,7 @@ use mathlib.Core.Path.{refl}
 use lib.ListN.{length}
 use Rattle.table.specs.Record.{recordOf}
 use Rattle.table.specs.Put.{withCard, withKind, withReadings}
-use Rattle.table.specs.Laws.{Became, put-card, put-kind, put-signature}
-use Rattle.insert.proofs.Writes.{became-by, then-with}
+use Rattle.table.specs.Laws.{Became, put-card, put-kind, put-signature, became-by, then-with}
 use native.Mathlib.Omega.{arith}
 use borrow.Author.Needs.{needs}
 use Rattle.insert.proofs.record.name.Statement.{statement}

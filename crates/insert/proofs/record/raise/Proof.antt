@@ -3,8 +3,8 @@
 use Prim.Native.Nat.{_^_, _≤_, _<_}
 use mathlib.Core.Path.{refl}
 use Rattle.table.specs.Record.{recordOf}
-use Rattle.table.specs.Laws.{put-radius}
-use Rattle.insert.proofs.Writes.{became-by, became-none, raised-more, raised-not}
+use Rattle.table.specs.Laws.{put-radius, became-by, became-none}
+use Rattle.insert.proofs.Writes.{raised-more, raised-not}
 use native.Mathlib.Omega.{arith}
 use borrow.Author.Needs.{needs}
 use Rattle.insert.proofs.record.raise.Statement.{statement}

@@ -5,10 +5,9 @@ use mathlib.Core.Path.{refl}
 use lib.ListN.{length}
 use Rattle.table.specs.Record.{recordOf}
 use Rattle.table.specs.Put.{withTimestamp, withRadius, withParent, withCount}
-use Rattle.table.specs.Laws.{Became, put-timestamp, put-radius, put-parent, put-count}
+use Rattle.table.specs.Laws.{Became, put-timestamp, put-radius, put-parent, put-count, became-by, then-with}
 use Rattle.view.specs.Place.{fresh}
 use Rattle.insert.specs.Newcomer.{slotless}
-use Rattle.insert.proofs.Writes.{became-by, then-with}
 use native.Mathlib.Omega.{arith}
 use borrow.Author.Needs.{needs}
 use Rattle.insert.proofs.record.seat.Statement.{statement}
