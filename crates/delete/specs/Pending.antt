@@ -13,6 +13,7 @@ use Rattle.table.specs.Table.{recordsOf, at}
 use Rattle.table.specs.Records.{records-length, records-at}
 use Rattle.judge.specs.WellFormed.{WellFormed}
 use Rattle.survey.specs.Survey.{usedIn, rootOf, kindOf}
+use Rattle.survey.specs.Laws.{used-at-most as usedIn-most}
 use Rattle.tree.specs.Slots.{_∈_, either, ∈-decide}
 use Rattle.view.specs.Shaped.{Shaped}
 use Rattle.view.specs.Survey.{rootOf-is}
@@ -25,7 +26,7 @@ use Rattle.insert.specs.Hang.{Hangable}
 use Rattle.insert.specs.Hangable.{hangable}
 use Rattle.delete.specs.Delete.{freedAt, deleted}
 use Rattle.delete.specs.Leaving.{Held, freed-length, freed-out}
-use Rattle.delete.specs.Stale.{puts, usedIn-most}
+use Rattle.delete.specs.Stale.{puts}
 use Rattle.delete.specs.Turn.{Turn, turn-next, turn-end}
 
 -- the bytes l hold the records `old` without slot v, of which the slots ss still wait

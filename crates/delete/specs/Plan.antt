@@ -18,6 +18,7 @@ use Rattle.table.specs.Record.{Record, recordOf, free, noSlot, children}
 use Rattle.table.specs.Table.{recordsOf, recordsIn, at}
 use Rattle.table.specs.Records.{records-length, records-at}
 use Rattle.survey.specs.Survey.{usedIn, rootOf, kindOf, largestTimestamp}
+use Rattle.survey.specs.Laws.{used-at-most as usedIn-most}
 use Rattle.tree.specs.Slots.{_∈_, ∈-decide}
 use Rattle.tree.specs.View.{Below, here}
 use Rattle.tree.specs.View.Shape.{below-younger}
@@ -40,7 +41,6 @@ use Rattle.delete.specs.Removed.{removed-is, removed-all, removed-rootOf
 use Rattle.delete.specs.Waiting.{map-from, map-to, waiting-length}
 use Rattle.delete.specs.Gather.{keyOf, slotsUnder}
 use Rattle.delete.specs.Clock.{slotIn, marked, marked-in, marked-out, unmarked, timestampIn, timestamp-marked, timestamp-open, timestamp-free, largest-same}
-use Rattle.delete.specs.Stale.{usedIn-most}
 use Rattle.delete.specs.Turn.{turn-start}
 use Rattle.delete.specs.Pending.{Pending}
 

@@ -1,7 +1,7 @@
 -- The insert rule on records of which some wait: it looks at no record that waits, so that it leaves the same records and
 -- gives the same count as where those that wait are free (`puts-freed`, `puts-count`). The key idea: a walk from the root
 -- sees used records alone. Assumes nothing.
-use Prim.Native.Nat.{ℕ, zero, suc, _+_, _*_, _≤_, _<_}
+use Prim.Native.Nat.{ℕ, suc, _+_, _*_, _≤_, _<_}
 use mathlib.Core.Path.{_≡_, refl, sym, ap, _∙_}
 use mathlib.Core.List.{List, [], _∷_, List·Memᴰ·head as first, List·Memᴰ·tail as later}
 use native.Mathlib.Omega.{arith}
@@ -11,12 +11,11 @@ use lib.ListN.{length, set, length-set, List·getD-eq-default}
 use lib.Seq.{getD-set-same, getD-set-other, ext-getD}
 use borrow.Author.Tests.{eq-eqb, ne-eqb}
 use Rattle.places.specs.Choice.{pick}
-use Rattle.places.specs.Count.{one-at-most}
-use Rattle.places.specs.Test.{countTo}
-use Rattle.table.specs.Record.{Record, Used, used, free, recordOf, noSlot, children}
+use Rattle.table.specs.Record.{Record, Used, free, recordOf, noSlot, children}
 use Rattle.table.specs.Table.{recordsOf, at}
 use Rattle.table.specs.Laws.{Became, records-with}
 use Rattle.survey.specs.Survey.{usedIn, rootOf, largestTimestamp}
+use Rattle.survey.specs.Laws.{used-at-most as usedIn-most}
 use Rattle.tree.specs.Slots.{_∈_, ∈-decide}
 use Rattle.tree.specs.View.{Formed, distanceCount}
 use Rattle.tree.specs.Insert.{path, last, attach}
@@ -142,12 +141,6 @@ module _ (d : List ℕ → List ℕ → ℕ) where
           (last root (path d (viewOf (at C)) (x .readings) arity depth root))
           (path d (viewOf (at C)) (x .readings) arity depth root))
     ]
-
--- no more records are used than there are
-pub usedIn-most : (n : ℕ) (R : ℕ → Record) → usedIn n R ≤ n
-unfolding usedIn countTo
-usedIn-most zero R = omega arith
-usedIn-most (suc n) R = omega (arith, usedIn-most n R, one-at-most (used (R n)))
 
 -- ---- records of which some wait
 

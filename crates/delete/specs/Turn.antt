@@ -11,9 +11,10 @@ use lib.Seq.{getD-set-other, ext-getD}
 use borrow.Author.Tests.{eq-eqb, ne-eqb}
 use Rattle.places.specs.Choice.{pick}
 use Rattle.distance.specs.Kind.{apart}
-use Rattle.table.specs.Record.{Record, free, slot}
+use Rattle.table.specs.Record.{Record, free}
 use Rattle.table.specs.Table.{at}
 use Rattle.survey.specs.Survey.{usedIn, rootOf, kindOf, largestTimestamp}
+use Rattle.survey.specs.Laws.{used-at-most as usedIn-most}
 use Rattle.tree.specs.Slots.{_∈_, ∈-decide}
 use Rattle.tree.specs.View.Count.{used-at-most}
 use Rattle.view.specs.Survey.{usedIn-usedCount, rootOf-is}
@@ -25,7 +26,7 @@ use Rattle.delete.specs.Delete.{leaving, freedAt, unhung, removed, waiti
 use Rattle.delete.specs.Leaving.{Held, held-seen, leaving-used, leaving-first, below-distinct, below-iff, unhung-length, unhung-leaving, freed-length, freed-in, freed-out}
 use Rattle.delete.specs.Waiting.{waiting-low, waiting-iff, waiting-length}
 use Rattle.delete.specs.Returning.{Returning, returning-ready, returning-next, returning-largest, returning-usedIn, removed-returning}
-use Rattle.delete.specs.Stale.{puts, puts-length, puts-freed, puts-count, puts-few, puts-stale, usedIn-most}
+use Rattle.delete.specs.Stale.{puts, puts-length, puts-freed, puts-count, puts-few, puts-stale}
 
 module _ (arity : ℕ) (old : List Record) (v : ℕ) where
   abbrev d : List ℕ → List ℕ → ℕ

@@ -66,3 +66,18 @@ first-one p s k a b fa fb =
 -- so a place that is first is the one that is found
 pub first-is : (p : ℕ → Bool) (s k a : ℕ) → First p s k a → firstFrom p s k ≡ a
 first-is p s k a f = first-one p s k (firstFrom p s k) a (first-from p s k) f
+
+-- if one of the places passes, so does the one that is found
+pub first-passes :
+    (p : ℕ → Bool) (s k a : ℕ)
+    → s ≤ a
+    → a < s + k
+    → p a ≡ true
+    → (firstFrom p s k < s + k) × (p (firstFrom p s k) ≡ true)
+first-passes p s k a h b e =
+    let f = first-from p s k in
+    below-or
+    (firstFrom p s k)
+    (s + k)
+    (λ g. (g, f .passes g))
+    (λ g. absurd (false≢true (sym (f .before a h (omega arith)) ∙ e)))

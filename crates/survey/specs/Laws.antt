@@ -1,25 +1,16 @@
 -- What the survey's answers say of a table's records, well formed or not. Assumes nothing.
-use Prim.Native.Nat.{ℕ, zero, suc, _+_, _≤_, _<_, max}
+use Prim.Native.Nat.{ℕ, zero, suc, _≤_, _<_, max}
 use mathlib.Core.Path.{_≡_, refl, ap, sym, _∙_}
 use mathlib.Core.Bool.{Bool, true, false, _&&_, not, false≢true}
 use native.Mathlib.Omega.{arith}
 use lib.Dec.{eqb}
 use borrow.Author.Tests.{leb-true, leb-false, le-leb, lt-leb, eqb-true, eqb-false, eq-eqb, ne-eqb, not-true, not-false}
 use Rattle.places.specs.Choice.{pick, and-left, and-right, and-both}
-use Rattle.places.specs.Test.{countTo}
+use Rattle.places.specs.Test.{count-most}
 use Rattle.table.specs.Cases.{below-or, equal-or}
 use Rattle.table.specs.Record.{Record, Used, used, noSlot}
 use Rattle.survey.specs.Survey.{firstFrom, usedIn, slotOfCard, lowestFree, rootOf, kindOf, largestTimestamp}
 use Rattle.survey.specs.First.{first-from, first-is}
-
-count-at-most : (n : ℕ) (p : ℕ → Bool) → countTo n p ≤ n
-unfolding countTo
-count-at-most zero p = omega arith
-count-at-most (suc n) p = on (p n) (count-at-most n p)
-  where
-    on : (t : Bool) → countTo n p ≤ n → pick t 1 0 + countTo n p ≤ suc n
-    on true h = omega arith
-    on false h = omega arith
 
 -- no slot before a has the card
 abbrev pub NoCard : (ℕ → Record) → ℕ → ℕ → Type 0
@@ -28,7 +19,7 @@ NoCard R card a = (s : ℕ) → s < a → R s .card ≡ card → ⊥
 module _ (n : ℕ) (R : ℕ → Record) where
   pub used-at-most : usedIn n R ≤ n
   unfolding usedIn
-  used-at-most = count-at-most n (λ s. used (R s))
+  used-at-most = count-most n (λ s. used (R s))
 
   -- ---- the slot of a card
 

@@ -12,10 +12,11 @@ use Rattle.distance.specs.Kind.{apart, apart-distance}
 use Rattle.table.specs.Record.{Record}
 use Rattle.table.specs.Table.{at}
 use Rattle.survey.specs.Survey.{usedIn, largestTimestamp}
+use Rattle.survey.specs.Laws.{largest-late}
 use Rattle.tree.specs.View.{Sound, Late}
 use Rattle.tree.specs.Insert.{Inserted, Alone, attach}
 use Rattle.view.specs.View.{viewOf}
-use Rattle.view.specs.Survey.{usedIn-usedCount, largest-late}
+use Rattle.view.specs.Survey.{usedIn-usedCount}
 use Rattle.view.specs.Formed.{used-within}
 use Rattle.view.specs.Sound.{SoundTable, sound-at, at-sound}
 use Rattle.view.specs.Place.{Newcomer, Placed, asRoot, hangingFrom, hanging, placed}
@@ -34,7 +35,7 @@ module _ (d : List ℕ → List ℕ → ℕ) {n arity s : ℕ} {x : Newcomer} {r
   next-some = omega arith
 
   next-late : Late (viewOf (at rows)) (largestTimestamp n (at rows) + 1)
-  next-late a u = omega (arith, largest-late (at rows) n a (used-within (ready .shaped) a u) u)
+  next-late a u = omega (arith, largest-late n (at rows) a (used-within (ready .shaped) a u) u)
 
   -- ---- the two cases of the rule
 

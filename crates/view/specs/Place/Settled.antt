@@ -11,11 +11,12 @@ use Rattle.table.specs.Record.{Record, Used, mostRecords}
 use Rattle.table.specs.Table.{at}
 use Rattle.judge.specs.WellFormed.{WellFormed}
 use Rattle.survey.specs.Survey.{usedIn, largestTimestamp}
+use Rattle.survey.specs.Laws.{largest-late}
 use Rattle.tree.specs.Slots.{either}
 use Rattle.tree.specs.View.Count.{usedCount-more}
 use Rattle.view.specs.View.{viewOf}
 use Rattle.view.specs.Shaped.{Shaped}
-use Rattle.view.specs.Survey.{usedIn-usedCount, largest-late, largest-is}
+use Rattle.view.specs.Survey.{usedIn-usedCount, largest-is}
 use Rattle.view.specs.Place.{Newcomer}
 use Rattle.view.specs.Place.Row.{Kept}
 
@@ -107,4 +108,4 @@ module _ {n arity s t : ℕ} {x : Newcomer} {rows : List Record} {S : ℕ → Re
       either
       (settled-cases a u)
       (λ q. omega (arith, ap (λ (i : ℕ). S i .timestamp) q, new .timestamp-new))
-      (λ z. omega (arith, new .kept a (z .0) .timestamp, largest-late (at rows) n a b (z .1))))
+      (λ z. omega (arith, new .kept a (z .0) .timestamp, largest-late n (at rows) a b (z .1))))
