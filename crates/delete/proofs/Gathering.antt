@@ -1,32 +1,16 @@
 -- Gathering's steps as the code takes them: one law for each place where the loop or a branch goes on. Assumes nothing.
 use Prim.Native.Nat.{ℕ, suc, _+_, _-_, _≤_, _<_}
 use mathlib.Core.Path.{_≡_, refl, sym, ap, _∙_}
-use mathlib.Core.List.{List, [], _∷_, _++_, map, flatMap}
+use mathlib.Core.List.{List, [], _∷_, _++_, map, map-append, flatMap}
 use native.Mathlib.Omega.{arith}
 use native.Mathlib.Numerals.{add-one}
-use native.Mathlib.Nat.{add-zero, add-suc, suc-add}
-use lib.ListN.{length, set, take, drop, length-append, drop-of-length-le}
+use native.Mathlib.Nat.{add-zero}
+use lib.ListN.{length, length-map, set, take, drop, length-append, drop-of-length-le}
 use lib.Seq.{sets, sets-eq, length-sets, take-at, drop-cons, length-take-le, getD-take}
-use Rattle.places.specs.Row.{row-length}
-use Rattle.table.specs.Record.{Record, recordOf, slot, children}
+use Rattle.places.specs.Fill.{sets-append}
+use Rattle.table.specs.Record.{Record, slot, children}
 use Rattle.tree.specs.View.Under.{under}
 use Rattle.delete.specs.Gather.{Gathered, keyOf, slotsUnder, gathered}
-
-pub slots-length : (l : List ℕ) (s : ℕ) → length (recordOf l s .slots) ≡ 8
-unfolding recordOf
-slots-length l s = row-length 8 _
-
-sets-append : (a b l : List ℕ) (i : ℕ) → sets l i (a ++ b) ≡ sets (sets l i a) (i + length a) b
-sets-append [] b l i = rw (add-zero i)
-sets-append (x ∷ a) b l i = sets-append a b (set l i x) (suc i) ∙ rw (add-suc i (length a), suc-add i (length a))
-
-map-append : (f : ℕ → ℕ) (a b : List ℕ) → map f (a ++ b) ≡ map f a ++ map f b
-map-append f [] b = refl
-map-append f (x ∷ a) b = ap (f x ∷_) (map-append f a b)
-
-pub map-length : (f : ℕ → ℕ) (a : List ℕ) → length (map f a) ≡ length a
-map-length f [] = refl
-map-length f (x ∷ a) = ap suc (map-length f a)
 
 pub parts : {l l′ : List ℕ} {a a′ : ℕ} → l ≡ l′ → a ≡ a′
     → _≡_ {A = Gathered} (record { keys = l; at = a }) (record { keys = l′; at = a′ })
@@ -51,7 +35,13 @@ module _ (R : ℕ → Record) where
   unfolding gathered
   gathered-append keys m xs ys =
       let e : m + (length xs + length ys) ≡ m + length xs + length ys = omega arith in
-      rw (map-append (keyOf R) xs ys, sets-append (map (keyOf R) xs) (map (keyOf R) ys) keys m, map-length (keyOf R) xs, length-append xs ys, e)
+      rw (
+        map-append (keyOf R) xs ys,
+        sets-append (map (keyOf R) xs) (map (keyOf R) ys) keys m,
+        length-map xs (keyOf R),
+        length-append xs ys,
+        e,
+      )
 
   pub gathered-length : (keys : List ℕ) (m : ℕ) (ss : List ℕ) → length (gathered R keys m ss .keys) ≡ length keys
   unfolding gathered
@@ -69,11 +59,11 @@ module _ (R : ℕ → Record) where
   gathered-whole keys ss row m h e =
       let count : m ≡ length ss = omega (arith, ap (λ (g : Gathered). g .at) e) in
       let row-is : row ≡ sets keys 0 (map (keyOf R) ss) = ap (λ (g : Gathered). g .keys) e in
-      let split = sets-eq (map (keyOf R) ss) keys 0 (omega (arith, map-length (keyOf R) ss)) in (
+      let split = sets-eq (map (keyOf R) ss) keys 0 (omega (arith, length-map ss (keyOf R))) in (
         count,
         ap length row-is ∙ length-sets keys 0 (map (keyOf R) ss),
         ap (take m) (row-is ∙ split)
-            ∙ take-at (map (keyOf R) ss) (drop (0 + length (map (keyOf R) ss)) keys) m (map-length (keyOf R) ss ∙ sym count),
+            ∙ take-at (map (keyOf R) ss) (drop (0 + length (map (keyOf R) ss)) keys) m (length-map ss (keyOf R) ∙ sym count),
       )
 
   -- ---- what is left of the children's turn

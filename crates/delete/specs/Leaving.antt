@@ -6,10 +6,21 @@ use mathlib.Core.Logic.{_↔_}
 use mathlib.Core.List.{List, [], _∷_, _++_, List·Memᴰ·head as first, List·Memᴰ·tail as later, List·Memᴰ·not-nil}
 use native.Mathlib.Omega.{arith}
 use native.Mathlib.Decide.{ℕ-discrete, decLe}
-use lib.ListN.{length, getD, set, drop, replicate, length-set, length-append, length-replicate, getD-replicate, List·getD-eq-default}
+use lib.ListN.{
+  length,
+  getD,
+  set,
+  drop,
+  replicate,
+  length-set,
+  length-append,
+  length-replicate,
+  getD-replicate,
+  List·getD-eq-default,
+}
 use lib.Seq.{getD-set-same, getD-set-other, take-at, getD-append-add}
 use borrow.Author.Tests.{eq-eqb, ne-eqb}
-use Rattle.table.specs.Record.{Record, Used, free, slot, noSlot, mostRecords, children}
+use Rattle.table.specs.Record.{Record, Used, free, noSlot, mostRecords, children}
 use Rattle.table.specs.Table.{at}
 use Rattle.judge.specs.WellFormed.{WellFormed, Filled}
 use Rattle.survey.specs.Survey.{usedIn, rootOf}

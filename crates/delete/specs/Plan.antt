@@ -11,6 +11,7 @@ use lib.Dec.{ltb}
 use lib.ListN.{length, getD, set, drop, replicate, length-map, length-replicate}
 use borrow.Author.Tests.{lt-ltb, le-ltb}
 use Rattle.places.specs.Choice.{pick}
+use Rattle.places.specs.Fill.{zeros-at}
 use Rattle.number.specs.Frame.{Bytes}
 use Rattle.order.specs.Order.{inOrder, placed}
 use Rattle.order.specs.InOrder.{inOrder-length, member-of-inOrder, inOrder-of-member}
@@ -19,7 +20,7 @@ use Rattle.table.specs.Table.{recordsOf, recordsIn, at}
 use Rattle.table.specs.Records.{records-length, records-at}
 use Rattle.survey.specs.Survey.{usedIn, rootOf, kindOf, largestTimestamp}
 use Rattle.survey.specs.Laws.{used-at-most as usedIn-most}
-use Rattle.tree.specs.Slots.{_∈_, ∈-decide}
+use Rattle.tree.specs.Slots.{_∈_, ∈-decide, image-from, image-to}
 use Rattle.tree.specs.View.{Below, here}
 use Rattle.tree.specs.View.Shape.{below-younger}
 use Rattle.tree.specs.View.Under.{under}
@@ -36,11 +37,32 @@ use Rattle.insert.specs.Insert.{Outcome, refused, changed, lastTimestamp}
 use Rattle.table.specs.RoundTrip.{bytes-back}
 use Rattle.tree.specs.View.Count.{used-at-most}
 use Rattle.delete.specs.Delete.{leaving, ageKey, waiting, removed, unhung, deleted, clockWouldPass}
-use Rattle.delete.specs.Leaving.{Held, held-seen, leaving-iff, leaving-first, leaving-used, leaving-distinct, below-iff, removed-in, removed-out}
+use Rattle.delete.specs.Leaving.{
+  Held,
+  held-seen,
+  leaving-iff,
+  leaving-first,
+  leaving-used,
+  leaving-distinct,
+  below-iff,
+  removed-in,
+  removed-out,
+}
 use Rattle.delete.specs.Removed.{removed-is, removed-all, removed-rootOf}
-use Rattle.delete.specs.Waiting.{map-from, map-to, waiting-length}
+use Rattle.delete.specs.Waiting.{waiting-length}
 use Rattle.delete.specs.Gather.{keyOf, slotsUnder}
-use Rattle.delete.specs.Clock.{slotIn, marked, marked-in, marked-out, unmarked, timestampIn, timestamp-marked, timestamp-open, timestamp-free, largest-same}
+use Rattle.delete.specs.Clock.{
+  slotIn,
+  marked,
+  marked-in,
+  marked-out,
+  unmarked,
+  timestampIn,
+  timestamp-marked,
+  timestamp-open,
+  timestamp-free,
+  largest-same,
+}
 use Rattle.delete.specs.Turn.{turn-start}
 use Rattle.delete.specs.Pending.{Pending}
 
@@ -83,7 +105,7 @@ module _ {rows : List Record} {v : ℕ} (held : Held rows v) where
   keys-first =
       ap (λ (l : List ℕ). inOrder (map (ageKey rows) l)) (leaving-first held)
       ∙ first-in-order (ageKey rows v) (map (ageKey rows) low)
-      (λ y i. let z = map-from (ageKey rows) y low i in rw (z .2) (oldest (z .0) (z .1)))
+      (λ y i. let z = image-from (ageKey rows) y low i in rw (z .2) (oldest (z .0) (z .1)))
 
   pub keys-waiting : drop 1 (map slotIn (inOrder (map (ageKey rows) (leaving rows v)))) ≡ waiting rows v
   unfolding waiting
@@ -98,21 +120,21 @@ module _ {rows : List Record} {v : ℕ} (held : Held rows v) where
 
   slots-from : (a : ℕ) → a ∈ map slotIn (inOrder (map (ageKey rows) (leaving rows v))) → a ∈ leaving rows v
   slots-from a i =
-      let y = map-from slotIn a (inOrder (map (ageKey rows) (leaving rows v))) i in
-      let z = map-from (ageKey rows) (y .0) (leaving rows v) (member-of-inOrder (y .0) (map (ageKey rows) (leaving rows v)) (y .1)) in
+      let y = image-from slotIn a (inOrder (map (ageKey rows) (leaving rows v))) i in
+      let z = image-from (ageKey rows) (y .0) (leaving rows v) (member-of-inOrder (y .0) (map (ageKey rows) (leaving rows v)) (y .1)) in
       let e : a ≡ z .0 = y .2 ∙ ap slotIn (z .2) ∙ key-slot (z .0) (z .1) in
       rw e (z .1)
 
   slots-to : (a : ℕ) → a ∈ leaving rows v → a ∈ map slotIn (inOrder (map (ageKey rows) (leaving rows v)))
   slots-to a i =
-      let k = inOrder-of-member (map-to (ageKey rows) a (leaving rows v) i) in
-      rw (key-slot a i) at (map-to slotIn (ageKey rows a) (inOrder (map (ageKey rows) (leaving rows v))) k)
+      let k = inOrder-of-member (image-to (ageKey rows) a (leaving rows v) i) in
+      rw (key-slot a i) at (image-to slotIn (ageKey rows a) (inOrder (map (ageKey rows) (leaving rows v))) k)
 
   pub slots-within : (i : ℕ) → i < length (inOrder (map (ageKey rows) (leaving rows v)))
       → slotIn (getD (inOrder (map (ageKey rows) (leaving rows v))) i 0) < 1024
   slots-within i h =
       let l = inOrder (map (ageKey rows) (leaving rows v)) in
-      let a = slots-from (slotIn (getD l i 0)) (map-to slotIn (getD l i 0) l (at-∈ l i h)) in
+      let a = slots-from (slotIn (getD l i 0)) (image-to slotIn (getD l i 0) l (at-∈ l i h)) in
       omega (arith, used-within (held .shaped) (slotIn (getD l i 0)) (leaving-used held (slotIn (getD l i 0)) a), held .small)
 
   -- ---- the clock
@@ -133,15 +155,10 @@ module _ {rows : List Record} {v : ℕ} (held : Held rows v) where
         | no m ↦
             let st = removed-out held s m in
             let e = marked-out l (replicate 1024 0) s (λ i. m (slots-from s i)) in
-            timestamp-open marks (at rows) s (e ∙ zeros 1024 s)
+            timestamp-open marks (at rows) s (e ∙ zeros-at 1024 s)
             ∙ same-in (at rows s) (at (removed rows v) s) (st .card) (st .timestamp)
       ])
     where
-      zeros : (n k : ℕ) → _≡_ {A = ℕ} (getD (replicate n 0) k 0) 0
-      zeros zero k = refl
-      zeros (suc n) zero = refl
-      zeros (suc n) (suc k) = zeros n k
-
       same-in : (r q : Record) → q .card ≡ r .card → q .timestamp ≡ r .timestamp → timestampIn r ≡ timestampIn q
       same-in r q e f = rw (e, f)
 

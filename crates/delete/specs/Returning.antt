@@ -1,7 +1,7 @@
 -- Those that stood below the deleted card go back one at a time: at each turn the records are well formed, and sound if they
 -- were, and each card that has gone back is as it was brought (`Returning`). From the theorem about one placing, by
 -- induction on those that wait. Assumes nothing.
-use Prim.Native.Nat.{ℕ, zero, suc, _+_, _≤_, _<_}
+use Prim.Native.Nat.{ℕ, suc, _+_, _≤_, _<_}
 use mathlib.Core.Path.{_≡_, refl, sym, ap, _∙_}
 use mathlib.Core.Logic.{_↔_}
 use mathlib.Core.List.{List, [], _∷_, List·Memᴰ·head as first, List·Memᴰ·tail as later, List·Memᴰ·not-nil}
@@ -23,7 +23,15 @@ use Rattle.view.specs.Place.Settled.{Ready, Settled, settled-usedIn, settled-la
 use Rattle.view.specs.Place.Keeps.{placed-length, placed-settled, placed-sound-table}
 use Rattle.view.specs.Stored.{Stored, brought, brought-is, stored-less}
 use Rattle.delete.specs.Delete.{removed, waiting, oneBack, putBack, deleted}
-use Rattle.delete.specs.Leaving.{Held, held-within, leaving-used, leaving-first, removed-length, removed-in, removed-out}
+use Rattle.delete.specs.Leaving.{
+  Held,
+  held-within,
+  leaving-used,
+  leaving-first,
+  removed-length,
+  removed-in,
+  removed-out,
+}
 use Rattle.delete.specs.Removed.{removed-shaped, removed-well-formed, removed-sound-table}
 use Rattle.delete.specs.Waiting.{waiting-iff, waiting-distinct}
 
@@ -196,13 +204,6 @@ module _ {rows : List Record} {v arity : ℕ} (held : Held rows v) (to-8 : arity
   unfolding deleted
   deleted-sound ok =
       returned-sound held to-8 (waiting rows v) start (removed-returning held) (removed-sound-table held ok)
-
-  -- the largest timestamp is that of those that stayed, and one more for each that went back
-  pub deleted-largest :
-      largestTimestamp (length rows) (at (deleted arity rows v .rows))
-      ≡ largestTimestamp (length rows) (at (removed rows v)) + length (waiting rows v)
-  unfolding deleted
-  deleted-largest = returned-largest held to-8 d (waiting rows v) start (removed-returning held)
 
   -- the stored cards are those before less the deleted one, each with its kind and signature
   pub deleted-stored :

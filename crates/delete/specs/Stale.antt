@@ -24,7 +24,18 @@ use Rattle.tree.specs.Insert.Same.{path-same, count-same}
 use Rattle.view.specs.View.{viewOf}
 use Rattle.view.specs.Survey.{usedIn-usedCount}
 use Rattle.view.specs.Formed.{formed-view}
-use Rattle.view.specs.Place.{Newcomer, Placed, fresh, raised, raisedAlong, adopting, asRoot, hangingFrom, hanging, placed}
+use Rattle.view.specs.Place.{
+  Newcomer,
+  Placed,
+  fresh,
+  raised,
+  raisedAlong,
+  adopting,
+  asRoot,
+  hangingFrom,
+  hanging,
+  placed,
+}
 use Rattle.view.specs.Place.Row.{along-length, along-other}
 use Rattle.view.specs.Place.Hanging.{after-length}
 use Rattle.view.specs.Place.Keeps.{placed-length, placed-settled}

@@ -23,9 +23,28 @@ use Rattle.view.specs.Place.Keeps.{placed-settled, placed-alone}
 use Rattle.view.specs.Stored.{brought}
 use Rattle.insert.specs.Insert.{lastTimestamp}
 use Rattle.delete.specs.Delete.{leaving, freedAt, unhung, removed, waiting, oneBack, putBack, deleted}
-use Rattle.delete.specs.Leaving.{Held, held-seen, leaving-used, leaving-first, below-distinct, below-iff, unhung-length, unhung-leaving, freed-length, freed-in, freed-out}
+use Rattle.delete.specs.Leaving.{
+  Held,
+  held-seen,
+  leaving-used,
+  leaving-first,
+  below-distinct,
+  below-iff,
+  unhung-length,
+  unhung-leaving,
+  freed-length,
+  freed-in,
+  freed-out,
+}
 use Rattle.delete.specs.Waiting.{waiting-low, waiting-iff, waiting-length}
-use Rattle.delete.specs.Returning.{Returning, returning-ready, returning-next, returning-largest, returning-usedIn, removed-returning}
+use Rattle.delete.specs.Returning.{
+  Returning,
+  returning-ready,
+  returning-next,
+  returning-largest,
+  returning-usedIn,
+  removed-returning,
+}
 use Rattle.delete.specs.Stale.{puts, puts-length, puts-freed, puts-count, puts-few, puts-stale}
 
 module _ (arity : ℕ) (old : List Record) (v : ℕ) where

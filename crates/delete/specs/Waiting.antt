@@ -1,44 +1,31 @@
 -- The slots that wait to go back are those that stood below the deleted card, each once. The key idea: a key's last 65,536
 -- tell its slot, so keys in order are the slots in another order. Assumes nothing.
 use Prim.Native.Nat.{ℕ, _%_, _≤_, _<_}
-use mathlib.Core.Path.{_≡_, refl, sym, ap, _∙_}
+use mathlib.Core.Path.{_≡_, sym, ap, _∙_}
 use mathlib.Core.Logic.{_↔_}
-use mathlib.Core.List.{List, [], _∷_, map, List·Memᴰ·head as first, List·Memᴰ·tail as later, List·Memᴰ·not-nil}
+use mathlib.Core.List.{List, [], _∷_, map}
 use native.Mathlib.Omega.{arith}
 use native.Mathlib.Decide.{ℕ-discrete}
 use lib.ListN.{length, drop, length-map}
 use Rattle.order.specs.Order.{inOrder, times}
-use Rattle.order.specs.InOrder.{times-nil, times-same, times-other, times-rest, times-of-member, member-of-times, inOrder-times, inOrder-of-member, member-of-inOrder, inOrder-length}
+use Rattle.order.specs.InOrder.{
+  times-nil,
+  times-same,
+  times-other,
+  times-rest,
+  times-of-member,
+  member-of-times,
+  inOrder-times,
+  inOrder-of-member,
+  member-of-inOrder,
+  inOrder-length,
+}
 use Rattle.table.specs.Record.{Record}
 use Rattle.table.specs.Table.{at}
-use Rattle.tree.specs.Slots.{_∈_, Distinct}
+use Rattle.tree.specs.Slots.{_∈_, Distinct, image-from, image-to, distinct-image}
 use Rattle.view.specs.Formed.{used-within}
 use Rattle.delete.specs.Delete.{leaving, ageKey, waiting}
 use Rattle.delete.specs.Leaving.{Held, leaving-used, below-iff, below-distinct}
-
--- ---- lists of images
-
-pub map-from : (f : ℕ → ℕ) (x : ℕ) (l : List ℕ) → x ∈ map f l → (a : ℕ) × a ∈ l × (x ≡ f a)
-map-from f x [] i = absurd (List·Memᴰ·not-nil i)
-map-from f x (a ∷ l) (first e) = (a, first refl, e)
-map-from f x (a ∷ l) (later i) = let z = map-from f x l i in (z .0, later (z .1), z .2)
-
-pub map-to : (f : ℕ → ℕ) (a : ℕ) (l : List ℕ) → a ∈ l → f a ∈ map f l
-map-to f a (b ∷ l) (first e) = first (ap f e)
-map-to f a (b ∷ l) (later i) = later (map-to f a l i)
-
-pub map-distinct :
-    (f : ℕ → ℕ) (l : List ℕ)
-    → ((a b : ℕ) → a ∈ l → b ∈ l → f a ≡ f b → a ≡ b)
-    → Distinct l
-    → Distinct (map f l)
-map-distinct f [] one p = tt
-map-distinct f (a ∷ l) one p = (
-  λ i.
-      let z = map-from f (f a) l i in
-      p .0 (rw (one a (z .0) (first refl) (later (z .1)) (z .2)) (z .1)),
-  map-distinct f l (λ b c i j. one b c (later i) (later j)) (p .1),
-)
 
 -- ---- no key twice, by how often each stands
 
@@ -79,19 +66,19 @@ module _ {rows : List Record} {v : ℕ} (held : Held rows v) where
   key-slot s i = omega (arith, low-within s i, held .small)
 
   key-from : (k : ℕ) → k ∈ inOrder (map (ageKey rows) low) → (s : ℕ) × s ∈ low × (k ≡ ageKey rows s)
-  key-from k i = map-from (ageKey rows) k low (member-of-inOrder k (map (ageKey rows) low) i)
+  key-from k i = image-from (ageKey rows) k low (member-of-inOrder k (map (ageKey rows) low) i)
 
   pub waiting-low : (s : ℕ) → s ∈ waiting rows v ↔ s ∈ drop 1 (leaving rows v)
   unfolding waiting
   waiting-low s = (
     λ i.
-        let y = map-from slotIn s (inOrder (map (ageKey rows) low)) i in
+        let y = image-from slotIn s (inOrder (map (ageKey rows) low)) i in
         let z = key-from (y .0) (y .1) in
         let e : s ≡ z .0 = y .2 ∙ ap slotIn (z .2) ∙ key-slot (z .0) (z .1) in
         rw e (z .1),
     λ i.
-        let k = map-to (ageKey rows) s low i in
-        rw (key-slot s i) at (map-to slotIn (ageKey rows s) (inOrder (map (ageKey rows) low)) (inOrder-of-member k)),
+        let k = image-to (ageKey rows) s low i in
+        rw (key-slot s i) at (image-to slotIn (ageKey rows s) (inOrder (map (ageKey rows) low)) (inOrder-of-member k)),
   )
 
   -- they are those that leave with v
@@ -101,7 +88,7 @@ module _ {rows : List Record} {v : ℕ} (held : Held rows v) where
   pub waiting-distinct : Distinct (waiting rows v)
   unfolding waiting
   waiting-distinct =
-      map-distinct
+      distinct-image
       slotIn
       (inOrder (map (ageKey rows) low))
       (λ a b i j e.
@@ -112,7 +99,7 @@ module _ {rows : List Record} {v : ℕ} (held : Held rows v) where
       x .2 ∙ ap (ageKey rows) same ∙ sym (y .2))
       (inOrder-distinct
       (map (ageKey rows) low)
-      (map-distinct
+      (distinct-image
       (ageKey rows)
       low
       (λ a b i j e. sym (key-slot a i) ∙ ap slotIn e ∙ key-slot b j)

@@ -1,6 +1,6 @@
 -- Kind 2: "the number of one bits in the exclusive or, summed over the four words, 0 to 256", and its four laws.
 -- The law over a third word is proved bit by bit: of the lowest bits it is the triangle on 0 and 1. Assumes nothing.
-use Prim.Native.Nat.{ℕ, zero, suc, _+_, _-_, _*_, _/_, _%_, _^_, _≤_, _<_}
+use Prim.Native.Nat.{ℕ, zero, suc, _+_, _/_, _%_, _^_, _≤_, _<_}
 use mathlib.Core.Path.{_≡_, ap, ap₂, _∙_}
 use mathlib.Core.List.{List}
 use native.Mathlib.Omega.{arith}

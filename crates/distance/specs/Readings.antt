@@ -1,5 +1,5 @@
 -- Kind 1: "the sum of the sixteen absolute differences, 0 to 1,048,560", and its four laws. Assumes nothing.
-use Prim.Native.Nat.{ℕ, _+_, _-_, _*_, _≤_}
+use Prim.Native.Nat.{ℕ, _+_, _-_}
 use mathlib.Core.List.{List}
 use native.Mathlib.Omega.{arith}
 use lib.ListN.{getD}

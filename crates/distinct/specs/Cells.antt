@@ -14,6 +14,7 @@ use lib.Dec.{eqb}
 use lib.ListN.{length, getD, set, length-set, replicate, length-replicate}
 use lib.Seq.{getD-set-same, getD-set-other, set-getD}
 use Rattle.places.specs.Choice.{pick}
+use Rattle.places.specs.Fill.{zeros-at}
 use Rattle.distinct.specs.Distinct.{distinctTo, distinct-none, distinct-more, distinct-twice}
 use Rattle.distinct.specs.Seat.{Seated, probes, seatFrom}
 use Rattle.distinct.specs.declared.Seat.{Seat}
@@ -186,15 +187,10 @@ pub holds-none :
 holds-none place f m room =
     record {
       apart = distinct-none f;
-      one-of = λ x h. absurd (omega (arith, empty m x));
+      one-of = λ x h. absurd (omega (arith, zeros-at m x));
       found = λ j h. absurd (omega arith);
       room = λ key d. rw length-replicate (room key d);
     }
-  where
-    empty : (m x : ℕ) → _≡_ {A = ℕ} (getD (replicate m 0) x 0) 0
-    empty zero x = refl
-    empty (suc m) zero = refl
-    empty (suc m) (suc x) = empty m x
 
 module _ {place : ℕ → ℕ → ℕ} {f : ℕ → ℕ} {n : ℕ} {cells : List ℕ} (H : Holds place f n cells) where
   -- a key of 0 leaves the cells as they were

@@ -6,11 +6,11 @@ use mathlib.Core.Bool.{true}
 use mathlib.Core.Logic.{_↔_}
 use mathlib.Core.List.{List, [], List·Memᴰ, List·Memᴰ·not-nil}
 use native.Mathlib.Omega.{arith}
-use lib.ListN.{length, replicate, length-replicate, getD-replicate, List·getD-eq-default}
+use lib.ListN.{length, replicate, length-replicate}
+use Rattle.places.specs.Fill.{zeros-at}
 use Rattle.number.specs.Frame.{Bytes}
 use Rattle.table.specs.Record.{Record, Used, recordOf, mostRecords}
 use Rattle.table.specs.Table.{rightSize, recordsIn, recordsOf, at, bytesOf}
-use Rattle.table.specs.Cases.{below-or}
 use Rattle.table.specs.Same.{all-free}
 use Rattle.table.specs.Records.{records-at}
 use Rattle.table.specs.Size.{right-size}
@@ -27,12 +27,7 @@ use Rattle.history.specs.Demands.{Holds, cardsOf}
 -- ---- a cleared table
 
 pub zeros-bytes : (m : ℕ) → Bytes (replicate m 0)
-zeros-bytes m i =
-    below-or i m
-    (λ h. omega (arith, getD-replicate {A = ℕ} m i 0 0 h))
-    (λ h.
-    let past : m ≤ i = h in
-    omega (arith, List·getD-eq-default {A = ℕ} (replicate m 0) 0 {n = i} (omega (arith, length-replicate {A = ℕ} m 0))))
+zeros-bytes m i = omega (arith, zeros-at m i)
 
 pub zeros-hold : (n : ℕ) → Holds n (record { table = replicate (n * 64) 0; stored = [] })
 zeros-hold n =

@@ -15,7 +15,7 @@ use Rattle.table.specs.Table.{rightSize, recordsIn, recordsOf, at}
 use Rattle.table.specs.Size.{rows-are}
 use Rattle.table.specs.Clear.{clear-done}
 use Rattle.survey.specs.Survey.{slotOfCard}
-use Rattle.tree.specs.Slots.{_∈_, Distinct, either}
+use Rattle.tree.specs.Slots.{_∈_, Distinct, either, image-from, image-to}
 use Rattle.view.specs.Refusal.{done}
 use Rattle.view.specs.Place.{Newcomer}
 use Rattle.view.specs.Stored.{Stored, brought-card}
@@ -27,7 +27,6 @@ use Rattle.delete.specs.Promises as Deletes
 use Rattle.history.specs.History.{Call, clear, insert, delete, search, check, Typed, AllTyped}
 use Rattle.history.specs.History.{State, cleared, without, after, run}
 use Rattle.history.specs.Demands.{Holds, cardsOf}
-use Rattle.history.specs.Images.{image-from, image-to}
 use Rattle.history.specs.Refused.{insert-none, insert-bytes, delete-bytes}
 use Rattle.history.specs.Holds.{zeros-hold, cleared-holds, sized, records-are, table-holds}
 

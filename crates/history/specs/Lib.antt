@@ -2,7 +2,6 @@
 -- demand 1, and the contracts' determinism (Promises); P1 to P13 as one table (Edges).
 pub mod History
 pub mod Demands
-pub mod Images
 pub mod Refused
 pub mod Holds
 pub mod Kept

@@ -15,7 +15,7 @@ use Rattle.table.specs.Record.{Record, Used, recordOf, mostRecords}
 use Rattle.table.specs.Table.{recordsIn}
 use Rattle.judge.specs.Decided.{formed-decided}
 use Rattle.survey.specs.Survey.{usedIn, rootOf}
-use Rattle.tree.specs.Slots.{_∈_, Distinct, distinct-length, flatMap-from}
+use Rattle.tree.specs.Slots.{_∈_, Distinct, distinct-length, flatMap-from, image-from, image-to, distinct-image}
 use Rattle.tree.specs.View.{compared, Formed}
 use Rattle.view.specs.View.{viewOf}
 use Rattle.view.specs.Refusal.{done}
@@ -31,7 +31,6 @@ use Rattle.soundness.specs.Soundness.{checkOf}
 use Rattle.soundness.specs.Decided.{sound-decided}
 use Rattle.history.specs.History.{State}
 use Rattle.history.specs.Demands.{Holds, cardsOf, comparedCards, Finds}
-use Rattle.history.specs.Images.{image-from, image-to, image-once}
 use Rattle.history.specs.Holds.{sized, records-are}
 
 -- ---- a table of n records after some calls
@@ -93,7 +92,7 @@ module _ {n : ℕ} (some : 1 ≤ n) (small : n ≤ mostRecords) {st : State} (h 
 
     slots-card : Distinct (comparedCards (st .table) kind s r)
     slots-card =
-        image-once (λ a. R a .card) slots
+        distinct-image (λ a. R a .card) slots
         (λ a b i j.
         let u = slot-used a i in
         let w = slot-used b j in

@@ -10,7 +10,7 @@ use lib.ListN.{length, set, length-set}
 use lib.Seq.{ext-getD, getD-set-other}
 use borrow.Author.Tests.{ne-eqb}
 use Rattle.distance.specs.Kind.{apart}
-use Rattle.table.specs.Record.{Record, Used, free, recordOf, noSlot}
+use Rattle.table.specs.Record.{Record, free, recordOf, noSlot}
 use Rattle.table.specs.Table.{recordsIn, recordsOf, at}
 use Rattle.table.specs.Records.{records-at}
 use Rattle.table.specs.Size.{whole, rows-are}
@@ -25,6 +25,7 @@ use Rattle.view.specs.Formed.{formed-view}
 use Rattle.view.specs.Stored.{brought}
 use Rattle.view.specs.Place.{Newcomer, Placed, fresh, asRoot, hanging, placed}
 use Rattle.view.specs.Place.Agree.{Agree, Unlinked, hanging-agree, hanging-count}
+use Rattle.view.specs.Place.Settled.{not-new}
 use Rattle.insert.specs.Newcomer.{named}
 use Rattle.insert.specs.Descent.{Stands}
 use Rattle.insert.specs.Hang.{Hangable}
@@ -107,14 +108,11 @@ module _ {l : List ℕ} {f : Findings} {x : Newcomer} {arity : ℕ} (ok : Placea
       formed : Formed (viewOf (at rows)) n (rootOf n (at rows))
       formed = formed-view (ok .ready .small) (ok .ready .shaped) (ok .ready .well-formed) some
 
-      not-slot : (a : ℕ) → Used (at rows a) → a ≡ s → ⊥
-      not-slot a u e = omega (arith, ok .ready .slot-free, ap (λ (i : ℕ). at rows i .card) e)
-
       unlinked : Unlinked waits rows (rootOf n (at rows))
       unlinked =
           record {
-            root-stays = not-slot (rootOf n (at rows)) (formed .root-used);
-            children-stay = λ a b _ i. not-slot b (formed .child-used a b i);
+            root-stays = not-new (ok .ready) (rootOf n (at rows)) (formed .root-used);
+            children-stay = λ a b _ i. not-new (ok .ready) b (formed .child-used a b i);
           }
 
       pub named-hangable : Hangable m (x .kind) arity s (f .root) (f .used)

@@ -7,7 +7,7 @@ use mathlib.Core.List.{List}
 use native.Mathlib.Omega.{arith}
 use lib.ListN.{length}
 use Rattle.distance.specs.Kind.{apart}
-use Rattle.table.specs.Record.{Record, recordOf, slot, children}
+use Rattle.table.specs.Record.{Record, recordOf, children}
 use Rattle.table.specs.Table.{recordsIn, recordsOf, at}
 use Rattle.table.specs.Records.{records-length}
 use Rattle.judge.specs.WellFormed.{WellFormed}

@@ -19,7 +19,7 @@ use Rattle.tree.specs.Insert.{nearest, hangs, onward, path, last}
 use Rattle.tree.specs.Insert.Same.{path-same, count-same}
 use Rattle.view.specs.View.{viewOf}
 use Rattle.view.specs.Place.{raised, raisedAlong}
-use Rattle.insert.specs.Descent.{Descended, descent, visited, descended}
+use Rattle.insert.specs.Descent.{Descended, descent, descended}
 
 -- ---- the scan for the nearest child
 

@@ -6,11 +6,11 @@ use mathlib.Core.Bool.{Bool, true, false, _&&_, _||_, not}
 use native.Mathlib.Omega.{arith}
 use native.Mathlib.Numerals.{add-one}
 use lib.Dec.{leb, ltb, eqb}
-use borrow.Author.Tests.{ne-eqb, eqb-false, ltb-false, le-leb, lt-leb, le-ltb, lt-ltb, not-true, not-false}
-use Rattle.places.specs.Choice.{pick, and-left, or-left, or-right, not-and, le-not-lt}
-use Rattle.places.specs.Test.{allTo, at-all, all-fails, all-none, all-more}
-use Rattle.table.specs.Record.{Record, Used, slot, noSlot}
-use Rattle.judge.specs.WellFormed.{isPast, pastCount, isFilled}
+use borrow.Author.Tests.{ne-eqb, eqb-false, ltb-false, le-leb, le-ltb, lt-ltb, not-true, not-false}
+use Rattle.places.specs.Choice.{and-left, or-left, or-right, not-and, le-not-lt}
+use Rattle.places.specs.Test.{allTo, all-fails, all-none, all-more}
+use Rattle.table.specs.Record.{Record, Used, slot}
+use Rattle.judge.specs.WellFormed.{pastCount, isFilled}
 use Rattle.judge.specs.Decided.{filled-decided}
 use Rattle.judge.specs.Counted.{timeBefore, isLinked, allLinked}
 

@@ -1,6 +1,6 @@
 -- What a write changes and what it leaves, by single bytes and over any width:
 -- a number written is read back, and a number whose bytes stand apart is as it was. Assumes nothing.
-use Prim.Native.Nat.{ℕ, zero, suc, _+_, _*_, _/_, _%_, _^_, _≤_, _<_}
+use Prim.Native.Nat.{ℕ, zero, suc, _+_, _/_, _^_, _≤_, _<_}
 use mathlib.Core.Path.{_≡_, refl, sym, ap, ap₂, _∙_}
 use mathlib.Core.List.{List, [], _∷_}
 use native.Mathlib.Omega.{arith}
@@ -27,7 +27,7 @@ digits-length : (n v : ℕ) → length (digits n v) ≡ n
 digits-length zero v = refl
 digits-length (suc n) v = ap suc (digits-length n (v / 256))
 
-digits-bytes : (n v : ℕ) → Bytes (digits n v)
+pub digits-bytes : (n v : ℕ) → Bytes (digits n v)
 digits-bytes zero v i = omega arith
 digits-bytes (suc n) v zero = omega arith
 digits-bytes (suc n) v (suc i) = digits-bytes n (v / 256) i
@@ -95,7 +95,7 @@ module _ (n : ℕ) (l : List ℕ) (at v : ℕ) where
 
 -- ---- reads
 
-number-as : (n : ℕ) (l : List ℕ) (at : ℕ) → numberAt n l at ≡ numberFrom l at 0 n
+pub number-as : (n : ℕ) (l : List ℕ) (at : ℕ) → numberAt n l at ≡ numberFrom l at 0 n
 unfolding numberAt
 number-as zero l at = refl
 number-as (suc n) l at = rw add-zero

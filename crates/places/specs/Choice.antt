@@ -52,10 +52,6 @@ le-not-lt a b = go (leb a b) refl
     go true e = sym (ap not (le-ltb b a (leb-true a b e)))
     go false e = sym (ap not (lt-ltb b a (leb-false a b e)))
 
-pub and-assoc : (a b c : Bool) → (a && b) && c ≡ a && (b && c)
-and-assoc true b c = refl
-and-assoc false b c = refl
-
 pub or-implies : (a b : Bool) → a || b ≡ implies (not a) b
 or-implies true b = refl
 or-implies false b = refl

@@ -23,10 +23,6 @@ pub one-no : (t : Bool) → (t ≡ true → ⊥) → one t ≡ 0
 one-no true h = absurd (h refl)
 one-no false h = refl
 
-pub one-at-most : (t : Bool) → one t ≤ 1
-one-at-most true = omega arith
-one-at-most false = omega arith
-
 -- a count is a sum
 pub count-sum : (n : ℕ) (p : ℕ → Bool) → countTo n p ≡ sumTo n (λ k. one (p k))
 unfolding countTo sumTo

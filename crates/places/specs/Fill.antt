@@ -1,11 +1,13 @@
--- A list that a loop fills from the front until it is another list. Assumes nothing.
-use Prim.Native.Nat.{ℕ, _+_, _<_}
-use mathlib.Core.Path.{_≡_, _∙_}
-use mathlib.Core.List.{List}
+-- A list that a loop fills from the front until it is another list; entries written one after another; zeros.
+-- Assumes nothing.
+use Prim.Native.Nat.{ℕ, zero, suc, _+_, _<_}
+use mathlib.Core.Path.{_≡_, refl, _∙_}
+use mathlib.Core.List.{List, [], _∷_, _++_}
 use native.Mathlib.Omega.{arith}
+use native.Mathlib.Nat.{add-zero, add-suc, suc-add}
 use borrow.Author.Count.{below-more}
-use lib.ListN.{getD, set, length}
-use lib.Seq.{getD-set-same, getD-set-other, ext-getD}
+use lib.ListN.{getD, set, length, replicate}
+use lib.Seq.{getD-set-same, getD-set-other, ext-getD, sets}
 
 -- the first i places of l hold what m holds there
 abbrev pub Filled : List ℕ → List ℕ → ℕ → Type 0
@@ -24,3 +26,14 @@ filled-more m l i v h all e =
 -- the end: all places are filled
 pub filled-all : (m l : List ℕ) (n : ℕ) → length l ≡ n → length m ≡ n → Filled m l n → l ≡ m
 filled-all m l n el em all = ext-getD 0 l m (cc) (λ k b. all k (omega arith))
+
+-- a run of entries written, and then another
+pub sets-append : (a b l : List ℕ) (i : ℕ) → sets l i (a ++ b) ≡ sets (sets l i a) (i + length a) b
+sets-append [] b l i = rw (add-zero i)
+sets-append (x ∷ a) b l i = sets-append a b (set l i x) (suc i) ∙ rw (add-suc i (length a), suc-add i (length a))
+
+-- a list of zeros reads as 0 at every place
+pub zeros-at : (n k : ℕ) → _≡_ {A = ℕ} (getD (replicate n 0) k 0) 0
+zeros-at zero k = refl
+zeros-at (suc n) zero = refl
+zeros-at (suc n) (suc k) = zeros-at n k

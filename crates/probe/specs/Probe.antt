@@ -1,6 +1,6 @@
 -- What each probe answers, for every input. A probe that cannot be answered gives `noAnswer`.
 use Prim.Native.Nat.{ℕ}
-use mathlib.Core.Bool.{Bool, _&&_}
+use mathlib.Core.Bool.{_&&_}
 use mathlib.Core.List.{List}
 use lib.Dec.{eqb, leb}
 use lib.ListN.{length}
@@ -10,7 +10,7 @@ use Rattle.distance.specs.Kind.{apart}
 use Rattle.table.specs.Record.{Record, recordOf}
 use Rattle.table.specs.Table.{rightSize, recordsIn}
 use Rattle.judge.specs.WellFormed.{wellFormed}
-use Rattle.survey.specs.Survey.{usedIn, slotOfCard, lowestFree, rootOf, kindOf, largestTimestamp}
+use Rattle.survey.specs.Survey.{slotOfCard}
 
 abbrev pub noAnswer : ℕ
 noAnswer = 4294967295

@@ -6,17 +6,18 @@ use mathlib.Core.Logic.{_⊎_, ⊎-elim}
 use mathlib.Core.List.{List, [], _∷_, _++_}
 use native.Mathlib.Omega.{arith}
 use native.Mathlib.Numerals.{add-one}
-use native.Mathlib.Nat.{add-zero, add-suc, suc-add, add-assoc}
+use native.Mathlib.Nat.{add-zero, add-assoc}
 use native.Mathlib.Decide.{ℕ-discrete}
 use borrow.Author.Count.{below-more}
 use borrow.Author.Tests.{le-leb, lt-leb}
 use lib.Dec.{leb, ltb}
 use lib.ListN.{length, getD, drop, set, replicate, length-append, drop-of-length-le}
 use lib.Seq.{sets, length-sets, getD-set-same, getD-set-other, getD-take, length-take-le, drop-cons}
-use Rattle.places.specs.Row.{row-length}
+use Rattle.places.specs.Fill.{sets-append, zeros-at}
 use Rattle.distance.specs.Laws.{farthest}
 use Rattle.distance.specs.Kind.{apart}
-use Rattle.table.specs.Record.{Record, recordOf, slot, children}
+use Rattle.table.specs.Record.{Record, slot, children}
+pub use Rattle.table.specs.Same.{slots-length}
 use Rattle.tree.specs.Slots.{keep}
 use Rattle.tree.specs.View.{childCounts}
 use Rattle.tree.specs.View.Count.{childCounts-append}
@@ -31,16 +32,7 @@ use Rattle.search.specs.Walk.{State, state, Query, boundOn, childBound, 
 pub cases : {A B C : Type 0} → A ⊎ B → (A → C) → (B → C) → C
 cases s f g = ⊎-elim f g s
 
-pub slots-length : (l : List ℕ) (s : ℕ) → length (recordOf l s .slots) ≡ 8
-unfolding recordOf
-slots-length l s = row-length 8 _
-
 -- ---- the distances of the children
-
-zeros : (n k : ℕ) → _≡_ {A = ℕ} (getD (replicate n 0) k 0) 0
-zeros zero k = refl
-zeros (suc n) zero = refl
-zeros (suc n) (suc k) = zeros n k
 
 pub smallest-more : (k : ℕ) (f : ℕ → ℕ) (start m : ℕ) → m ≡ smallestTo k f start → min m (f k) ≡ smallestTo (k + 1) f start
 unfolding smallestTo
@@ -59,7 +51,7 @@ smallest-at-most (suc k) f start = omega (arith, smallest-at-most k f start)
 
 module _ (R : ℕ → Record) (kind : ℕ) (q : List ℕ) (s : ℕ) where
   pub compared-none : Compared R kind q s 0 (replicate 8 0)
-  compared-none = record { each = λ k h. absurd (omega arith); near = λ k. omega (arith, zeros 8 k) }
+  compared-none = record { each = λ k h. absurd (omega arith); near = λ k. omega (arith, zeros-at 8 k) }
 
   pub compared-more :
       (k x : ℕ) (ds : List ℕ)
@@ -83,10 +75,6 @@ module _ (R : ℕ → Record) (kind : ℕ) (q : List ℕ) (s : ℕ) where
       }
 
 -- ---- what a walk leaves
-
-sets-append : (a b l : List ℕ) (i : ℕ) → sets l i (a ++ b) ≡ sets (sets l i a) (i + length a) b
-sets-append [] b l i = rw (add-zero i)
-sets-append (x ∷ a) b l i = sets-append a b (set l i x) (suc i) ∙ rw (add-suc i (length a), suc-add i (length a))
 
 -- the distance of slot a's record to the query
 abbrev pub awayIn : Query → ℕ → ℕ

@@ -19,7 +19,6 @@ use Rattle.survey.specs.Survey.{usedIn, rootOf}
 use Rattle.tree.specs.Slots.{_∈_, Distinct}
 use Rattle.tree.specs.View.{Formed, Sound, Late, compared}
 use Rattle.tree.specs.View.Count.{distanceCount-compared}
-use Rattle.tree.specs.Search.{listed}
 use Rattle.tree.specs.Search.Once.{visit-compared-distinct}
 use Rattle.tree.specs.Search.Wider.{count-wider}
 use Rattle.tree.specs.Search.Finds.{listed-once, listed-iff}

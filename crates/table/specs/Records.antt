@@ -32,23 +32,6 @@ records-at l whole s =
     (records-in l s)
     (λ h. row-past (recordsIn l) (recordOf l) free s h ∙ sym (past-free l s (omega arith)))
 
--- tables of the same records are the same row
-pub records-same :
-    (m l : List ℕ)
-    → length m ≡ length l
-    → ((s : ℕ) → s < recordsIn l → recordOf m s ≡ recordOf l s)
-    → recordsOf m ≡ recordsOf l
-records-same m l e same =
-    let n : recordsIn m ≡ recordsIn l = ap (λ (k : ℕ). k / 64) e in
-    ext-getD
-    free
-    (recordsOf m)
-    (recordsOf l)
-    (records-length m ∙ n ∙ sym (records-length l))
-    (λ s p.
-    let h : s < recordsIn m = omega (arith, records-length m) in
-    records-in m s h ∙ same s (omega arith) ∙ sym (records-in l s (omega arith)))
-
 -- two tables of bytes of one length with the same records are one
 pub bytes-same :
     (m l : List ℕ)

@@ -8,7 +8,7 @@ use native.Mathlib.Omega.{arith}
 use lib.ListN.{getD, length, length-append, List·getD-append, List·getD-eq-default}
 use lib.Seq.{ext-getD, getD-append-add}
 use Rattle.number.specs.Number.{numberAt, digits}
-use Rattle.number.specs.Frame.{Bytes, number-lt}
+use Rattle.number.specs.Frame.{Bytes, digits-bytes, number-lt}
 use Rattle.distance.specs.Signature.{Fit, readings-length, readings-fit}
 use Rattle.table.specs.Record.{Record, free, recordOf, slot, slotsAt, signatureAt}
 use Rattle.table.specs.Table.{recordsOf, at, numbers, bytesOfRecord, bytesOf}
@@ -16,7 +16,6 @@ use Rattle.table.specs.Cases.{below-or}
 use Rattle.table.specs.Span.{Alike, number-alike}
 use Rattle.table.specs.Same.{slot-at, slots-length, reading-of, record-alike}
 use Rattle.table.specs.Records.{records-length, records-in, bytes-same}
-use Rattle.table.specs.Run.{digits-bytes}
 
 -- ---- records whose fields fit
 

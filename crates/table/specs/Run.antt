@@ -1,24 +1,20 @@
 -- The runs of bytes that a write changes, apart from any record: a number, a byte, the readings of a signature, zeros.
 -- Each keeps the length, leaves the bytes outside, keeps all elements bytes, and is read back. Assumes nothing.
-use Prim.Native.Nat.{ℕ, zero, suc, _+_, _-_, _*_, _/_, _≤_, _<_}
+use Prim.Native.Nat.{ℕ, zero, suc, _+_, _-_, _*_, _≤_, _<_}
 use native.Mathlib.Numerals.{add-one}
 use mathlib.Core.Path.{ap, ap₂, _≡_, refl, sym, _∙_}
 use mathlib.Core.List.{List}
 use native.Mathlib.Omega.{arith}
 use lib.ListN.{getD, set, length, length-set, replicate, length-replicate, getD-replicate}
 use lib.Seq.{ext-getD, getD-set-same, getD-set-other, set-out}
-use Rattle.number.specs.Number.{numberAt, withNumber, digits}
-use Rattle.number.specs.Frame.{Bytes, Outside, with-length, with-outside, with-inside, number-with, number-other}
+use Rattle.number.specs.Number.{numberAt, withNumber}
+use Rattle.number.specs.Frame.{Bytes, Outside, digits-bytes}
+use Rattle.number.specs.Frame.{with-length, with-outside, with-inside, number-with, number-other}
 use Rattle.distance.specs.Signature.{Fit, readingsAt, reading-at, readings-length}
 use Rattle.table.specs.Cases.{below-or, equal-or}
 use Rattle.table.specs.Put.{putReadings, zeroed}
 
 -- ---- a number, and a byte
-
-pub digits-bytes : (n v : ℕ) → Bytes (digits n v)
-digits-bytes zero v i = omega arith
-digits-bytes (suc n) v zero = omega arith
-digits-bytes (suc n) v (suc i) = digits-bytes n (v / 256) i
 
 pub number-bytes : (n : ℕ) (l : List ℕ) (at v : ℕ) → at + n ≤ length l → Bytes l → Bytes (withNumber n l at v)
 number-bytes n l at v h bytes i =

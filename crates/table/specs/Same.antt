@@ -5,14 +5,14 @@ use mathlib.Core.Path.{_≡_, refl, ap, sym, _∙_}
 use mathlib.Core.Bool.{Bool, true}
 use mathlib.Core.List.{List, []}
 use native.Mathlib.Omega.{arith}
-use lib.ListN.{getD, length, replicate, length-replicate, getD-replicate, List·getD-eq-default}
+use lib.ListN.{getD, length, replicate, List·getD-eq-default}
 use lib.Seq.{ext-getD}
 use Rattle.places.specs.Row.{rowTo, row-at, row-same, row-length}
+use Rattle.places.specs.Fill.{zeros-at}
 use Rattle.number.specs.Number.{numberAt}
 use Rattle.number.specs.Frame.{Bytes}
 use Rattle.distance.specs.Signature.{readingsAt, reading-at, readings-length}
 use Rattle.table.specs.Record.{Record, free, recordOf, slot, slotsAt, signatureAt}
-use Rattle.table.specs.Cases.{below-or}
 use Rattle.table.specs.Span.{Alike, alike-within, alike-more, alike-row, number-alike, alike-number}
 
 -- ---- the rows of a record
@@ -175,16 +175,7 @@ past-free l s h = zeros-free l s (λ j p. List·getD-eq-default l 0 (omega arith
 
 -- so in a table of zeros every record is
 pub all-free : (n s : ℕ) → recordOf (replicate n 0) s ≡ free
-all-free n s =
-    zeros-free
-    (replicate n 0)
-    s
-    (λ j p.
-    below-or
-    (s * 64 + j)
-    n
-    (λ h. getD-replicate n (s * 64 + j) 0 0 h)
-    (λ h. List·getD-eq-default (replicate n 0) 0 (omega (arith, length-replicate {A = ℕ} n 0))))
+all-free n s = zeros-free (replicate n 0) s (λ j p. zeros-at n (s * 64 + j))
 
 -- ---- a test for a free record
 

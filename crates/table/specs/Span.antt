@@ -8,7 +8,7 @@ use native.Mathlib.Nat.{add-zero}
 use lib.ListN.{getD}
 use Rattle.table.specs.Cases.{below-or}
 use Rattle.number.specs.Number.{numberAt, numberFrom}
-use Rattle.number.specs.Frame.{Bytes}
+use Rattle.number.specs.Frame.{Bytes, number-as}
 
 -- the n bytes of m from a on are those of l from b on
 abbrev pub Alike : ℕ → List ℕ → ℕ → List ℕ → ℕ → Type 0
@@ -24,11 +24,6 @@ alike-within n w o m a l b h same j p =
     let ea : a + o + j ≡ a + (o + j) = omega arith in
     let eb : b + (o + j) ≡ b + o + j = omega arith in
     ap (λ (i : ℕ). getD m i 0) ea ∙ same (o + j) (omega arith) ∙ ap (λ (i : ℕ). getD l i 0) eb
-
-number-as : (n : ℕ) (l : List ℕ) (at : ℕ) → numberAt n l at ≡ numberFrom l at 0 n
-unfolding numberAt
-number-as zero l at = refl
-number-as (suc n) l at = rw add-zero
 
 from-alike :
     (n k : ℕ) (m : List ℕ) (a : ℕ) (l : List ℕ) (b : ℕ)

@@ -5,7 +5,7 @@ use mathlib.Core.Path.{_≡_, refl}
 use mathlib.Core.List.{List, [], _∷_}
 use lib.ListN.{getD}
 use Rattle.tree.specs.Slots.{keep}
-use Rattle.tree.specs.View.{View, usedCount, compared, childCounts, distanceCount}
+use Rattle.tree.specs.View.{View, usedCount, childCounts, distanceCount}
 use Rattle.tree.specs.Search.{least, enters, visited, bound, turn, visit, walk, listed}
 use Rattle.tree.specs.Insert.{nearest, hangs, onward, path}
 use Rattle.tree.specs.Insert as Insert

@@ -1,9 +1,9 @@
 -- Lists of slots: membership, no slot twice, a list kept or dropped, and their laws. Assumes nothing.
 use Prim.Native.Nat.{ℕ, suc, _≤_}
-use mathlib.Core.Bool.{Bool, true, false, _&&_, false≢true}
+use mathlib.Core.Bool.{Bool, true, false, false≢true}
 use mathlib.Core.Path.{_≡_, refl, sym, ap, _∙_}
 use mathlib.Core.Logic.{_⊎_, inl, inr}
-use mathlib.Core.List.{List, [], _∷_, _++_, flatMap, Memᴰ·cast, Memᴰ·append-left, Memᴰ·append-right}
+use mathlib.Core.List.{List, [], _∷_, _++_, map, flatMap, Memᴰ·cast, Memᴰ·append-left, Memᴰ·append-right}
 use mathlib.Core.List.{List·Memᴰ, List·Memᴰ·head as first, List·Memᴰ·tail as later}
 use mathlib.Core.List.{List·Memᴰ·not-nil, List·Memᴰ·append-cases}
 use mathlib.Core.List.{Sublistᴰ, Sublistᴰ·slnil, Sublistᴰ·cons, Sublistᴰ·cons-cons, Sublistᴰ·nil-sublist}
@@ -35,19 +35,6 @@ keep false l = []
 pub either : {A B C : Type 0} → A ⊎ B → (A → C) → (B → C) → C
 either (inl a) f g = f a
 either (inr b) f g = g b
-
--- ---- tests joined
-
-pub and-left : (a b : Bool) → a && b ≡ true → a ≡ true
-and-left true b e = refl
-and-left false b e = e
-
-pub and-right : (a b : Bool) → a && b ≡ true → b ≡ true
-and-right true b e = e
-and-right false b e = absurd (false≢true e)
-
-pub and-both : (a b : Bool) → a ≡ true → b ≡ true → a && b ≡ true
-and-both a b e f = rw (e, f)
 
 -- ---- membership
 
@@ -101,6 +88,16 @@ unfolding flatMap
 flatMap-same f g [] h = refl
 flatMap-same f g (a ∷ l) h = rw (h a (first refl), flatMap-same f g l (λ b i. h b (later i)))
 
+-- the numbers that a list's elements are sent to
+pub image-from : {A : Type 0} (f : A → ℕ) (c : ℕ) (l : List A) → c ∈ map f l → (a : A) × List·Memᴰ a l × (c ≡ f a)
+image-from f c [] i = absurd (List·Memᴰ·not-nil i)
+image-from f c (a ∷ l) (first e) = (a, first refl, e)
+image-from f c (a ∷ l) (later i) = let z = image-from f c l i in (z .0, later (z .1), z .2)
+
+pub image-to : {A : Type 0} (f : A → ℕ) (a : A) (l : List A) → List·Memᴰ a l → f a ∈ map f l
+image-to f a (b ∷ l) (first e) = first (ap f e)
+image-to f a (b ∷ l) (later i) = later (image-to f a l i)
+
 -- ---- no element twice
 
 pub distinct-append : (l m : List ℕ) → Distinct l → Distinct m → ((a : ℕ) → a ∈ l → a ∈ m → ⊥) → Distinct (l ++ m)
@@ -114,6 +111,20 @@ pub distinct-part : {l m : List ℕ} → l ⊑ m → Distinct m → Distinct l
 distinct-part Sublistᴰ·slnil p = tt
 distinct-part (Sublistᴰ·cons s) p = distinct-part s (p .1)
 distinct-part (Sublistᴰ·cons-cons e s) p = (λ i. p .0 (rw e at (⊑-∈ _ s i)), distinct-part s (p .1))
+
+-- numbers to which no two elements are sent
+pub distinct-image :
+    (f : ℕ → ℕ) (l : List ℕ)
+    → ((a b : ℕ) → a ∈ l → b ∈ l → f a ≡ f b → a ≡ b)
+    → Distinct l
+    → Distinct (map f l)
+distinct-image f [] one p = tt
+distinct-image f (a ∷ l) one p = (
+  λ i.
+      let z = image-from f (f a) l i in
+      p .0 (rw (one a (z .0) (first refl) (later (z .1)) (z .2)) (z .1)),
+  distinct-image f l (λ b c i j. one b c (later i) (later j)) (p .1),
+)
 
 -- lists without repeats, one for each element, that share nothing
 pub distinct-flatMap : (f : ℕ → List ℕ) (l : List ℕ) → Distinct l → ((a : ℕ) → a ∈ l → Distinct (f a))

@@ -192,17 +192,6 @@ module _ {n : ℕ} {R : ℕ → Record} {root : ℕ} (small : n ≤ mostRecords)
             (omega (arith, children-length (R a) (holds a))));
       }
 
--- a well-formed table has these fields
-pub formed-fields :
-    {n : ℕ} {R : ℕ → Record} → WellFormed n R → 1 ≤ usedIn n R → Fields n R (rootOf n R)
-formed-fields {n} {R} wf some =
-    record {
-      free-if-no-card = wf .free-if-no-card;
-      filled = wf .filled;
-      kinds = wf .kinds;
-      root-parent = rootOf-is n R wf some .2;
-    }
-
 -- ---- a free table
 
 -- where no record is used, each is free

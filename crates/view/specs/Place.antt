@@ -1,6 +1,6 @@
 -- "Insert": a newcomer placed in a slot of a row of records by the insert rule. Insert places one; delete places again,
 -- one at a time, those that stood below the deleted card.
-use Prim.Native.Nat.{ℕ, suc, _+_, max}
+use Prim.Native.Nat.{ℕ, _+_, max}
 use mathlib.Core.List.{List, [], _∷_}
 use lib.Dec.{eqb}
 use lib.ListN.{length, set, replicate}

@@ -1,16 +1,14 @@
 -- A table's shape: eight child slots and sixteen readings in each record, and free records past its n slots. A table of
 -- bytes has it, and so has a row of such records. Assumes nothing.
-use Prim.Native.Nat.{ℕ, suc, _+_, _*_, _≤_, _<_}
-use mathlib.Core.Path.{_≡_, refl}
+use Prim.Native.Nat.{ℕ, _+_, _*_, _≤_}
+use mathlib.Core.Path.{_≡_}
 use mathlib.Core.List.{List}
 use native.Mathlib.Omega.{arith}
-use native.Mathlib.Decide.{decLe}
-use lib.ListN.{length, List·getD-eq-default}
+use lib.ListN.{length}
 use Rattle.places.specs.Row.{row-length}
 use Rattle.number.specs.Number.{numberAt}
 use Rattle.distance.specs.Signature.{readings-length}
 use Rattle.table.specs.Record.{Record, free, recordOf, slotsAt, signatureAt}
-use Rattle.table.specs.Table.{at}
 use Rattle.table.specs.Same.{past-free}
 
 pub record Shaped (n : ℕ) (R : ℕ → Record) : Type 0 where
@@ -27,21 +25,3 @@ shaped-bytes n l e =
       sixteen = λ s. readings-length l (signatureAt s);
       past = λ s h. past-free l s (omega arith);
     }
-
--- a row of records
-pub shaped-row :
-    (rows : List Record)
-    → ((s : ℕ) → s < length rows → (length (at rows s .slots) ≡ 8) × (length (at rows s .readings) ≡ 16))
-    → Shaped (length rows) (at rows)
-shaped-row rows h =
-    record {
-      eight = λ s. within s (λ (r : Record). length (r .slots) ≡ 8) (λ b. h s b .0) refl;
-      sixteen = λ s. within s (λ (r : Record). length (r .readings) ≡ 16) (λ b. h s b .1) refl;
-      past = λ s b. List·getD-eq-default rows free b;
-    }
-  where
-    within : (s : ℕ) (P : Record → Type 0) → (s < length rows → P (at rows s)) → P free → P (at rows s)
-    within s P f p = elim (decLe (suc s) (length rows)) [
-      | yes b ↦ f b
-      | no nb ↦ let e : at rows s ≡ free = List·getD-eq-default rows free (omega arith) in rw e p
-    ]

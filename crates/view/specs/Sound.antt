@@ -7,7 +7,7 @@ use mathlib.Core.Logic.{_⊎_, inl, inr}
 use native.Mathlib.Omega.{arith}
 use native.Mathlib.Decide.{ℕ-discrete}
 use Rattle.distance.specs.Kind.{apart}
-use Rattle.table.specs.Record.{Record, Used, free}
+use Rattle.table.specs.Record.{Record, Used}
 use Rattle.judge.specs.WellFormed.{WellFormed}
 use Rattle.survey.specs.Survey.{usedIn, kindOf}
 use Rattle.tree.specs.Slots.{either}

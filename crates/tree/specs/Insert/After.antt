@@ -3,14 +3,13 @@
 -- Assumes nothing.
 use Prim.Native.Nat.{ℕ, suc, _≤_}
 use mathlib.Core.Path.{_≡_}
-use mathlib.Core.Logic.{_⊎_, inl, inr, _↔_}
+use mathlib.Core.Logic.{_⊎_, inl, inr}
 use mathlib.Core.List.{List, Memᴰ·append-left}
 use mathlib.Core.List.{List·Memᴰ·not-nil, List·Memᴰ·append-cases, List·Memᴰ·eq-of-singleton}
 use native.Mathlib.Omega.{arith}
 use native.Mathlib.Decide.{ℕ-discrete}
 use Rattle.tree.specs.Slots.{_∈_, either, ∈-decide}
-use Rattle.tree.specs.View.{View, Used, Late, Below, here, down, Formed, usedCount}
-use Rattle.tree.specs.View.Count.{usedCount-more}
+use Rattle.tree.specs.View.{View, Used, Below, here, down, Formed}
 use Rattle.tree.specs.Insert.{Fresh, Inserted}
 
 -- ---- of the two tables alone
@@ -76,21 +75,3 @@ module _ {Sig : Type 0} {v : View Sig} {n s c t : ℕ} (new : Fresh v n s c t) w
 
     pub inserted-old-used : (a : ℕ) → Used v a → Used w a
     inserted-old-used a u = rw (done .card-old a (fresh-slot a u)) u
-
-    -- the used slots are s and those before
-    pub inserted-used : (a : ℕ) → Used w a ↔ (a ≡ s) ⊎ Used v a
-    inserted-used a = (
-      λ u. either (inserted-used-cases done a u) inl (λ z. inr (z .1)),
-      λ z. either z (λ e. rw e inserted-new-used) (inserted-old-used a),
-    )
-
-    pub inserted-usedCount : usedCount w n ≡ suc (usedCount v n)
-    inserted-usedCount = usedCount-more v w n s (new .slot-within) free inserted-new-used (done .card-old)
-      where
-        free : v .card s ≡ 0
-        free = elim (ℕ-discrete (v .card s) 0) [ yes e ↦ e | no ne ↦ absurd (new .slot-free (omega arith)) ]
-
-    pub inserted-late : Late w (suc t)
-    inserted-late a u = either (inserted-used-cases done a u)
-        (λ e. rw (e, done .timestamp-new) (omega arith))
-        (λ z. rw (done .timestamp-old a (z .0)) (omega (arith, new .late a (z .1))))

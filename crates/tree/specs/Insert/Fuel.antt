@@ -9,7 +9,7 @@ use Rattle.tree.specs.Slots.{_∈_, keep}
 use Rattle.tree.specs.View.{View, Used, Shallow, Formed, usedCount}
 use Rattle.tree.specs.View.Shape.{shallow-some, shallow-child}
 use Rattle.tree.specs.View.Under.{used-shallow}
-use Rattle.tree.specs.Insert.{nearest, hangs, onward, path, walk, attach}
+use Rattle.tree.specs.Insert.{nearest, hangs, onward, path, walk}
 use Rattle.tree.specs.Insert.Path.{nearest-∈}
 
 module _ {Sig : Type 0} (d : Sig → Sig → ℕ) (v : View Sig) (x : Sig) (arity : ℕ) where
@@ -39,8 +39,3 @@ module _ {Sig : Type 0} (d : Sig → Sig → ℕ) (v : View Sig) (x : Sig) (arit
     -- steps 2 and 3: a, and then nothing, or the same from its nearest child
     pub walk-is : walk d v x arity n a ≡ a ∷ onward d v x arity (walk d v x arity n) a (v .children a)
     walk-is = sym (path-fuel (suc (usedCount v n)) (omega arith)) ∙ unfold path in refl
-
-  pub attach-fuel : {n root : ℕ} → Formed v n root → (f : ℕ) → usedCount v n ≤ f
-      → attach d v x arity f root ≡ attach d v x arity (usedCount v n) root
-  unfolding attach
-  attach-fuel {root} wf f h = rw (path-fuel wf root (wf .root-used) f h)

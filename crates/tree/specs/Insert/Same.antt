@@ -1,12 +1,12 @@
 -- The walk of an insertion looks only at what it can reach: two views that agree on a set of slots, closed under children,
 -- have the same walk from each of them (`path-same`), at the same count (`count-same`). Assumes nothing.
 use Prim.Native.Nat.{ℕ, suc, zero, _+_}
-use mathlib.Core.Bool.{Bool, true, false, cond, not}
+use mathlib.Core.Bool.{cond, not}
 use mathlib.Core.Path.{_≡_, refl, ap, ap₂, _∙_}
 use mathlib.Core.List.{List, [], _∷_, List·Memᴰ·head as first, List·Memᴰ·tail as later, List·Memᴰ·not-nil}
 use lib.Dec.{ltb}
 use lib.ListN.{length}
-use Rattle.tree.specs.Slots.{_∈_, keep, keep-from}
+use Rattle.tree.specs.Slots.{_∈_, keep-from}
 use Rattle.tree.specs.View.{View, away, childCounts, distanceCount}
 use Rattle.tree.specs.Insert.{nearest, hangs, onward, path}
 use Rattle.tree.specs.Insert.Path.{cond-∈, nearest-∈}

@@ -7,7 +7,8 @@ use mathlib.Core.List.{List, [], _∷_, Sublistᴰ·slnil, Sublistᴰ·cons-cons
 use native.Mathlib.Omega.{arith}
 use lib.Dec.{leb, ltb}
 use borrow.Author.Tests.{ltb-true, leb-true, lt-ltb, le-leb}
-use Rattle.tree.specs.Slots.{_⊑_, keep-more, and-left, and-right, and-both}
+use Rattle.places.specs.Choice.{and-left, and-right, and-both}
+use Rattle.tree.specs.Slots.{_⊑_, keep-more}
 use Rattle.tree.specs.View.{View, away, distanceCount}
 use Rattle.tree.specs.View.Count.{distanceCount-part}
 use Rattle.tree.specs.Search.{least, enters, visited, bound, turn, visit}

@@ -1,7 +1,7 @@
 -- The tree from below: the record k levels above x, by parent slots, as a walk upwards finds it. In a well-formed table
 -- it is the one record that x stands k levels below. Assumes nothing.
 use Prim.Native.Nat.{ℕ, suc, zero, _<_}
-use mathlib.Core.Path.{_≡_, refl, sym, ap, _∙_}
+use mathlib.Core.Path.{_≡_, refl, ap, _∙_}
 use native.Mathlib.Omega.{arith}
 use Rattle.tree.specs.View.{View, Used, Below, here, down, Formed}
 
@@ -14,10 +14,6 @@ module _ {Sig : Type 0} {v : View Sig} {n root : ℕ} (wf : Formed v n root) whe
   unfolding above
   below-above (here e) = e
   below-above (down {a = a} {b = b} i p) = ap (v .parent) (below-above p) ∙ wf .child-parent a b i
-
-  -- at each level a record stands below one record alone
-  pub below-one : {k x a b : ℕ} → Below (v .children) x k a → Below (v .children) x k b → a ≡ b
-  below-one p q = sym (below-above p) ∙ below-above q
 
   -- from a used record upwards, as far as the root is not passed
   pub above-below : (k x : ℕ) → Used v x → ((j : ℕ) → j < k → above (v .parent) j x ≡ root → ⊥)

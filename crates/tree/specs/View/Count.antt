@@ -74,11 +74,6 @@ module _ {Sig : Type 0} {v : View Sig} {n root : ℕ} (wf : Formed v n root) whe
     distinct-length l (usedSlots v n) p (λ a i. usedSlots-to v n a (wf .within a (f a i)) (f a i)),
   )
 
-  -- a well-formed table has a used record
-  pub usedCount-some : 0 < usedCount v n
-  usedCount-some = used-at-most (root ∷ []) (List·Memᴰ·not-nil, tt)
-      (λ a i. rw (List·Memᴰ·eq-of-singleton i) (wf .root-used))
-
 module _ {Sig : Type 0} (v w : View Sig) where
   pub usedCount-same : (n : ℕ) → ((a : ℕ) → a < n → w .card a ≡ v .card a) → usedCount w n ≡ usedCount v n
   unfolding usedCount

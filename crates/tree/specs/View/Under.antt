@@ -1,6 +1,6 @@
 -- All that stands at or below a slot, as a list in walk order: in a well-formed table it is complete, has no repeats, and
 -- for the root it is all used slots. With levels enough, more change nothing. Assumes nothing.
-use Prim.Native.Nat.{ℕ, suc, zero, _+_, _≤_, _<_}
+use Prim.Native.Nat.{ℕ, suc, zero, _≤_, _<_}
 use mathlib.Core.Path.{_≡_, refl, sym, ap, _∙_}
 use mathlib.Core.Logic.{_↔_}
 use mathlib.Core.List.{List, [], _∷_, flatMap, List·Memᴰ·head as first, List·Memᴰ·tail as later, List·Memᴰ·not-nil}
@@ -9,7 +9,7 @@ use lib.ListN.{length}
 use Rattle.tree.specs.Slots.{_∈_, part-length, Distinct, distinct-flatMap}
 use Rattle.tree.specs.Slots.{flatMap-from, flatMap-to, flatMap-part, flatMap-same}
 use Rattle.tree.specs.View.{View, Used, Below, here, down, Shallow, Formed, usedCount}
-use Rattle.tree.specs.View.Shape.{shallow-some, shallow-child, below-younger, below-used, below-root}
+use Rattle.tree.specs.View.Shape.{shallow-some, shallow-child, below-younger, below-used}
 use Rattle.tree.specs.View.Shape.{siblings-same, children-distinct}
 use Rattle.tree.specs.View.Count.{used-at-most}
 
@@ -100,10 +100,3 @@ module _ {Sig : Type 0} {v : View Sig} {n root : ℕ} (wf : Formed v n root) whe
           let shallow = used-shallow (usedCount v n) a u (omega arith) (z .0) x (z .1) in
           under-to (v .children) (usedCount v n) (z .0) a x shallow (z .1),
     )
-
-  -- below the root stand all used slots
-  pub under-root : (x : ℕ) → x ∈ under (v .children) (usedCount v n) root ↔ Used v x
-  under-root x = (
-    under-used (usedCount v n) root x (wf .root-used),
-    λ u. (under-iff root (wf .root-used) x) .1 (below-root wf x u),
-  )

@@ -2,7 +2,7 @@
 -- and a newcomer hung in both leaves them agreeing again, in its own slot too (`hanging-agree`, `hanging-count`).
 -- Insert and delete write a newcomer's card into its slot before they hang it; the definitions have the slot free. Assumes nothing.
 use Prim.Native.Nat.{ℕ, suc, _<_, _≤_}
-use mathlib.Core.Path.{_≡_, refl, sym, ap, ap₂, _∙_}
+use mathlib.Core.Path.{_≡_, refl, sym, ap, _∙_}
 use mathlib.Core.List.{List, [], _∷_, List·Memᴰ·head as first, List·Memᴰ·tail as later}
 use native.Mathlib.Omega.{arith}
 use native.Mathlib.Decide.{ℕ-discrete, decLe}

@@ -37,7 +37,7 @@ use Rattle.view.specs.Place.Hanging.{
   hanging-inserted,
 }
 use Rattle.view.specs.Place.Room.{attach-room}
-use Rattle.view.specs.Place.Settled.{Ready, Settled}
+use Rattle.view.specs.Place.Settled.{Ready, Settled, not-new}
 use Rattle.view.specs.Place.Root.{fresh-filled}
 
 -- ---- the walk in a table of n records
@@ -110,9 +110,6 @@ module _ (d : List ℕ → List ℕ → ℕ) (arity : ℕ) {n s : ℕ} {x : Newc
   within : (a : ℕ) → Used (at rows a) → a < length rows
   within a u = omega (arith, used-within (ready .shaped) a u, ready .length-is)
 
-  not-new : (a : ℕ) → Used (at rows a) → a ≡ s → ⊥
-  not-new a u e = omega (arith, ready .slot-free, ap (λ (i : ℕ). at rows i .card) e)
-
   on-count : at rows on .count < 8
   unfolding host
   on-count =
@@ -128,9 +125,9 @@ module _ (d : List ℕ → List ℕ → ℕ) (arity : ℕ) {n s : ℕ} {x : Newc
   done : Inserted d (viewOf (at rows)) (viewOf S) (x .card) (x .readings) s t on walk
   unfolding S
   done =
-      hanging-inserted d arity s x rows t on walk slot-in (within on on-used) (not-new on on-used)
+      hanging-inserted d arity s x rows t on walk slot-in (within on on-used) (not-new ready on on-used)
       (omega (arith, on-count, ready .shaped .eight on))
-      (λ i. not-new s (walk-used s i) refl)
+      (λ i. not-new ready s (walk-used s i) refl)
       (λ a i. within a (walk-used a i))
 
   -- an insertion, as the tree knows it
@@ -177,26 +174,26 @@ module _ (d : List ℕ → List ℕ → ℕ) (arity : ℕ) {n s : ℕ} {x : Newc
   unfolding S H
   each P a f g h = elim (ℕ-discrete a s) [
     | yes e ↦
-        let q = after-new d arity s x rows t on walk slot-in (within on on-used) (not-new on on-used) in
+        let q = after-new d arity s x rows t on walk slot-in (within on on-used) (not-new ready on on-used) in
         rw (e, q) (f e)
     | no ns ↦ elim (ℕ-discrete a on) [
       | yes e ↦
-          let q = after-on d arity s x rows t on walk slot-in (within on on-used) (not-new on on-used) in
+          let q = after-on d arity s x rows t on walk slot-in (within on on-used) (not-new ready on on-used) in
           let g′ : P (adopting s (high d arity s x rows t on walk on)) = rw e at (g e) in
           rw (e, q) g′
       | no no′ ↦
-          let q = after-other d arity s x rows t on walk slot-in (within on on-used) (not-new on on-used) a ns no′ in
+          let q = after-other d arity s x rows t on walk slot-in (within on on-used) (not-new ready on on-used) a ns no′ in
           rw q (h ns no′)
     ]
   ]
 
   kept : (a : ℕ) → (a ≡ s → ⊥) → Kept (at rows a) (S a)
   unfolding S
-  kept = after-kept d arity s x rows t on walk slot-in (within on on-used) (not-new on on-used)
+  kept = after-kept d arity s x rows t on walk slot-in (within on on-used) (not-new ready on on-used)
 
   S-new : S s ≡ fresh x t on
   unfolding S
-  S-new = after-new d arity s x rows t on walk slot-in (within on on-used) (not-new on on-used)
+  S-new = after-new d arity s x rows t on walk slot-in (within on on-used) (not-new ready on on-used)
 
   -- a record without a card is as it was
   unused-same : (a : ℕ) → S a .card ≡ 0 → S a ≡ at rows a
@@ -204,7 +201,7 @@ module _ (d : List ℕ → List ℕ → ℕ) (arity : ℕ) {n s : ℕ} {x : Newc
   unused-same a z =
       let ns : a ≡ s → ⊥ = λ e. omega (arith, ready .card-some, ap (λ (i : ℕ). S i .card) e, done .card-new) in
       let idle : Used (at rows a) → ⊥ = λ u. omega (arith, kept a ns .card) in
-      after-other d arity s x rows t on walk slot-in (within on on-used) (not-new on on-used) a ns
+      after-other d arity s x rows t on walk slot-in (within on on-used) (not-new ready on on-used) a ns
       (λ e. idle (rw e on-used))
       ∙ along-other d (x .readings) walk rows a (λ i. idle (walk-used a i))
 
@@ -261,7 +258,7 @@ module _ (d : List ℕ → List ℕ → ℕ) (arity : ℕ) {n s : ℕ} {x : Newc
             adopting-filled s (H a) room (was-filled a b (rw e on-used)))
             (λ ns _. was-filled a b (rw (kept a ns .card) at u));
         kinds = λ a b p q u w. kinds a p u ∙ sym (kinds b q w);
-        root-parent = kept (rootOf n (at rows)) (not-new (rootOf n (at rows)) (r .1)) .parent ∙ r .2;
+        root-parent = kept (rootOf n (at rows)) (not-new ready (rootOf n (at rows)) (r .1)) .parent ∙ r .2;
       }
     where
       was-filled : (a : ℕ) → a < n → Used (at rows a) → Filled (H a)

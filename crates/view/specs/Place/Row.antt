@@ -8,7 +8,7 @@ use native.Mathlib.Decide.{ℕ-discrete, decLe}
 use native.Mathlib.Numerals.{add-one}
 use lib.ListN.{length, set, length-set}
 use lib.Seq.{getD-set-same, getD-set-other, set-out, take-suc-set}
-use Rattle.table.specs.Record.{Record, free, slot, children}
+use Rattle.table.specs.Record.{Record, free, children}
 use Rattle.table.specs.Table.{at}
 use Rattle.tree.specs.Slots.{_∈_, ∈-decide}
 use Rattle.view.specs.Place.{raised, raisedAlong, adopting}

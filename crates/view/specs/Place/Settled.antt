@@ -2,7 +2,7 @@
 -- the used slots, their number, the timestamps and the kinds. Assumes nothing.
 use Prim.Native.Nat.{ℕ, suc, _+_, _≤_, _<_}
 use mathlib.Core.Path.{_≡_, sym, ap, _∙_}
-use mathlib.Core.Logic.{_⊎_, inl, inr, _↔_}
+use mathlib.Core.Logic.{_⊎_, inl, inr}
 use mathlib.Core.List.{List}
 use native.Mathlib.Omega.{arith}
 use native.Mathlib.Decide.{ℕ-discrete}
@@ -52,6 +52,16 @@ pub record Settled (n s t : ℕ) (x : Newcomer) (R S : ℕ → Record) : Type 0 
 
 -- ---- what follows
 
+-- the slot is none of the used ones
+pub not-new :
+    {n arity s : ℕ} {x : Newcomer} {rows : List Record}
+    → Ready n arity s x rows
+    → (a : ℕ)
+    → Used (at rows a)
+    → a ≡ s
+    → ⊥
+not-new {rows = rows} ready a u e = omega (arith, ready .slot-free, ap (λ (i : ℕ). at rows i .card) e)
+
 module _ {n arity s t : ℕ} {x : Newcomer} {rows : List Record} {S : ℕ → Record}
     (ready : Ready n arity s x rows) (new : Settled n s t x (at rows) S) where
   pub settled-new-used : Used (S s)
@@ -60,16 +70,6 @@ module _ {n arity s t : ℕ} {x : Newcomer} {rows : List Record} {S : ℕ → Re
   pub settled-cases : (a : ℕ) → Used (S a) → (a ≡ s) ⊎ ((a ≡ s → ⊥) × Used (at rows a))
   settled-cases a u =
       elim (ℕ-discrete a s) [ yes e ↦ inl e | no ne ↦ inr (ne, rw (new .kept a ne .card) at u) ]
-
-  pub settled-old : (a : ℕ) → Used (at rows a) → a ≡ s → ⊥
-  settled-old a u e = omega (arith, ready .slot-free, ap (λ (i : ℕ). at rows i .card) e)
-
-  -- the used slots are those before and s
-  pub settled-used : (a : ℕ) → Used (S a) ↔ (a ≡ s) ⊎ Used (at rows a)
-  settled-used a = (
-    λ u. either (settled-cases a u) inl (λ z. inr (z .1)),
-    λ z. either z (λ e. rw e settled-new-used) (λ u. rw (new .kept a (settled-old a u) .card) u),
-  )
 
   pub settled-usedIn : usedIn n S ≡ suc (usedIn n (at rows))
   settled-usedIn =

@@ -10,7 +10,15 @@ use Rattle.survey.specs.Survey.{slotOfCard}
 use Rattle.view.specs.Refusal.{done}
 use Rattle.insert.specs.Refusals.{early-passed}
 use Rattle.delete.specs.Plan.{outcomeAt}
-use Rattle.delete.specs.Call.{earlyOf, same-numbers, early-refused, absent-refused, arity-few, present-held, present-done}
+use Rattle.delete.specs.Call.{
+  earlyOf,
+  same-numbers,
+  early-refused,
+  absent-refused,
+  arity-few,
+  present-held,
+  present-done,
+}
 use native.Mathlib.Omega.{arith}
 use borrow.Author.Needs.{needs}
 use Rattle.delete.proofs.call.delete.Statement.{statement}

@@ -9,9 +9,9 @@ use lib.ListN.{length, length-append}
 use borrow.Fn.Kinds.{In}
 use borrow.Fn.PlainCycle.{Measures, is, falls, and}
 use Rattle.table.specs.Record.{recordOf}
+use Rattle.table.specs.Same.{slots-length}
 use Rattle.delete.specs.Gather.{Gathered, slotsUnder, gathered}
 use Rattle.delete.proofs.Gathering
-use Rattle.delete.proofs.Gathering.{slots-length}
 use Rattle.delete.proofs.gather.gather.Reads as gather
 use Rattle.delete.proofs.gather.gather.Kinds as gather-kinds
 use Rattle.delete.proofs.gather.+gather.Lts-gather as gather-lts

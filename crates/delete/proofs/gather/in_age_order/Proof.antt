@@ -1,7 +1,7 @@
 -- `delete::gather::in_age_order` meets its contract: the keys are gathered, and sorted where they stand. Assumes nothing.
 use mathlib.Core.Path.{_≡_, sym, ap, _∙_}
 use mathlib.Core.List.{map}
-use lib.ListN.{length, take, drop}
+use lib.ListN.{length, length-map, take, drop}
 use lib.Seq.{take-at}
 use Rattle.order.specs.Order.{inOrder}
 use Rattle.order.specs.InOrder.{inOrder-length}
@@ -38,7 +38,7 @@ slice-aggregate-sort c =
     let w = whole (c .before .before .before) in
     let a = c .before .before .before .before .before .before .before .args in
     let R = recordOf (a .t .now) in
-    w .0 ∙ sym (ap length (w .2) ∙ Gathering.map-length (keyOf R) (slotsUnder R (a .used) (a .v)))
+    w .0 ∙ sym (ap length (w .2) ∙ length-map (slotsUnder R (a .used) (a .v)) (keyOf R))
 
 slice-aggregate-sort-2 : tie.Need-slice-aggregate-sort-2
 slice-aggregate-sort-2 c = search needs
@@ -50,7 +50,7 @@ sort-requires c κs =
     let R = recordOf (a .t .now) in
     let p = c .before .before .before .before .before .before .before .before .pre in
     let long : length (take (c .before .before .before .before .gather .result) (c .before .before .before .before .gather .last .1 .1 .0)) ≡ length (slotsUnder R (a .used) (a .v)) =
-    ap length (w .2) ∙ Gathering.map-length (keyOf R) (slotsUnder R (a .used) (a .v)) in
+    ap length (w .2) ∙ length-map (slotsUnder R (a .used) (a .v)) (keyOf R) in
     omega (arith, long, p .3, p .4)
 
 same-length : tie.Need-same-length
@@ -67,7 +67,7 @@ returns c =
     let sorted = c .before .before .before .sort .last .0 in
     let is : sorted ≡ inOrder (map (keyOf R) ss) = c .before .before .before .sort .ensures ∙ ap inOrder (w .2) in
     let long : length sorted ≡ m =
-    ap length is ∙ inOrder-length (map (keyOf R) ss) ∙ Gathering.map-length (keyOf R) ss ∙ sym (w .0) in
+    ap length is ∙ inOrder-length (map (keyOf R) ss) ∙ length-map ss (keyOf R) ∙ sym (w .0) in
     (w .0, take-at sorted (drop m row) m long ∙ is)
 
 pub in-age-order-spec : {M : Type 1} → statement M

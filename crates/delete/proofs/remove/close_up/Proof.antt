@@ -8,7 +8,17 @@ use Rattle.table.specs.Record.{Record, recordOf}
 use Rattle.table.specs.Same.{slots-length}
 use Rattle.table.specs.Put.{withSlot}
 use Rattle.table.specs.Laws.{Became, put-slot, became-by, became-none, then-with}
-use Rattle.delete.specs.Closing.{withSlots, kept, closing, kept-none, kept-at-most, closing-none, closing-at, closing-out, closing-in}
+use Rattle.delete.specs.Closing.{
+  withSlots,
+  kept,
+  closing,
+  kept-none,
+  kept-at-most,
+  closing-none,
+  closing-at,
+  closing-out,
+  closing-in,
+}
 use native.Mathlib.Omega.{arith}
 use borrow.Author.Needs.{needs}
 use Rattle.delete.proofs.remove.close_up.Statement.{statement}
