@@ -1,6 +1,7 @@
 -- `soundness::sibling_ok` meets its contract: b itself is not farther than b, a younger record is not asked, and the
 -- distance is the same both ways. Assumes nothing.
-use mathlib.Core.Path.{sym}
+use mathlib.Core.Path.{sym, ap₂, _∙_}
+use lib.Dec.{leb}
 use native.Mathlib.Omega.{arith}
 use borrow.Author.Needs.{needs}
 use Rattle.distance.specs.Kind.{apart-distance}
@@ -25,7 +26,8 @@ returns-2 c =
     let a = c .before .before .before .before .before .args in
     let R = recordOf (a .t .now) in
     let turned = apart-distance (a .kind) .both-ways (R (a .c) .readings) (a .x .readings) in
-    cc (sibling-older R (a .kind) (a .x .readings) (a .time) (a .b) (a .c) (omega arith), turned)
+    ap₂ leb (c .before .before .before .before .before .pre .1) (c .away-from .ensures .0 ∙ turned)
+    ∙ sym (sibling-older R (a .kind) (a .x .readings) (a .time) (a .b) (a .c) (omega arith))
 
 returns-3 : tie.Need-returns-3
 returns-3 c =
