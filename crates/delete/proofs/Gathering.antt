@@ -63,7 +63,8 @@ module _ (R : ℕ → Record) where
         count,
         ap length row-is ∙ length-sets keys 0 (map (keyOf R) ss),
         ap (take m) (row-is ∙ split)
-            ∙ take-at (map (keyOf R) ss) (drop (0 + length (map (keyOf R) ss)) keys) m (length-map ss (keyOf R) ∙ sym count),
+            ∙ take-at (map (keyOf R) ss) (drop (0 + length (map (keyOf R) ss)) keys) m
+            (length-map ss (keyOf R) ∙ sym count),
       )
 
   -- ---- what is left of the children's turn
@@ -91,4 +92,9 @@ module _ (R : ℕ → Record) where
       → restFrom left a k ≡ slotsUnder R left c ++ restFrom left a (k + 1)
   unfolding restFrom flatMap
   rest-more left a k c fits h e =
-      rw (drop-cons (children (R a)) k 0 (omega (arith, length-take-le (R a .count) (R a .slots) fits)), add-one k, e, getD-take (R a .count) (R a .slots) k 0 h)
+      rw (
+        drop-cons (children (R a)) k 0 (omega (arith, length-take-le (R a .count) (R a .slots) fits)),
+        add-one k,
+        e,
+        getD-take (R a .count) (R a .slots) k 0 h,
+      )

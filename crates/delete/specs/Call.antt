@@ -1,4 +1,5 @@
--- The call's refusals in the two groups in which the code tests them, and what it leads to when there is none. Assumes nothing.
+-- The call's refusals in the two groups in which the code tests them, and what it leads to when there is none. Assumes
+-- nothing.
 use Prim.Native.Nat.{ℕ, _≤_, _<_}
 use mathlib.Core.Path.{_≡_, refl, sym, ap, subst, _∙_}
 use mathlib.Core.Bool.{Bool, true, false, _&&_, not}
@@ -30,7 +31,8 @@ unfoldable pub late : Bool → Bool → ℕ
 late absent clock = firstOf ((absent, ABSENT) ∷ (clock, CLOCK) ∷ [])
 
 two-groups : (size formed arguments absent clock : Bool)
-    → firstOf ((not size, SIZE) ∷ (not formed, TABLE) ∷ (not arguments, ARGUMENT) ∷ (absent, ABSENT) ∷ (clock, CLOCK) ∷ [])
+    → firstOf ((not size, SIZE) ∷ (not formed, TABLE) ∷ (not arguments, ARGUMENT) ∷ (absent, ABSENT) ∷ (clock, CLOCK)
+    ∷ [])
     ≡ pick (eqb (early size formed arguments) done) (late absent clock) (early size formed arguments)
 unfolding early late
 two-groups false f a b c = refl
@@ -57,7 +59,8 @@ module _ (l : List ℕ) (card arity : ℕ) where
       ≡ pick (eqb earlyOf done) (late (leb n v) (clockWouldPass (recordsOf l) v)) earlyOf
   unfolding refusalOf
   refusal-is =
-      two-groups (rightSize (length l)) (wellFormed n (recordOf l)) (leb 1 card && knownArity arity) (leb n v) (clockWouldPass (recordsOf l) v)
+      two-groups (rightSize (length l)) (wellFormed n (recordOf l)) (leb 1 card && knownArity arity) (leb n v)
+      (clockWouldPass (recordsOf l) v)
 
   given : (k : ℕ) → refusalOf l card arity ≡ k → (k ≡ done → ⊥)
       → _≡_ {A = Outcome} (record { refusal = k; count = 0; table = l }) (deleteOf l card arity)
@@ -66,7 +69,8 @@ module _ (l : List ℕ) (card arity : ℕ) where
 
   refusal-early : (earlyOf ≡ done → ⊥) → refusalOf l card arity ≡ earlyOf
   refusal-early ne =
-      refusal-is ∙ ap (λ (t : Bool). pick t (late (leb n v) (clockWouldPass (recordsOf l) v)) earlyOf) (ne-eqb earlyOf done ne)
+      refusal-is ∙ ap (λ (t : Bool). pick t (late (leb n v) (clockWouldPass (recordsOf l) v)) earlyOf)
+      (ne-eqb earlyOf done ne)
 
   -- refused by the table's size and form or the call's arguments
   pub early-refused : (earlyOf ≡ done → ⊥)
@@ -77,13 +81,15 @@ module _ (l : List ℕ) (card arity : ℕ) where
   module _ (passed : earlyOf ≡ done) where
     refusal-late : refusalOf l card arity ≡ late (leb n v) (clockWouldPass (recordsOf l) v)
     refusal-late =
-        refusal-is ∙ ap (λ (t : Bool). pick t (late (leb n v) (clockWouldPass (recordsOf l) v)) earlyOf) (eq-eqb earlyOf done passed)
+        refusal-is ∙ ap (λ (t : Bool). pick t (late (leb n v) (clockWouldPass (recordsOf l) v)) earlyOf)
+        (eq-eqb earlyOf done passed)
 
     tests : Early (rightSize (length l)) (wellFormed n (recordOf l)) (leb 1 card && knownArity arity)
     tests = early-passed (rightSize (length l)) (wellFormed n (recordOf l)) (leb 1 card && knownArity arity) passed
 
     -- "card not stored"
-    pub absent-refused : n ≤ v → _≡_ {A = Outcome} (record { refusal = ABSENT; count = 0; table = l }) (deleteOf l card arity)
+    pub absent-refused : n ≤ v
+        → _≡_ {A = Outcome} (record { refusal = ABSENT; count = 0; table = l }) (deleteOf l card arity)
     unfolding late
     absent-refused h =
         given ABSENT
@@ -141,7 +147,9 @@ module _ (l : List ℕ) (card arity : ℕ) (none : refusalOf l card arity ≡ do
   ]
 
   passed-late : (leb (recordsIn l) v′ ≡ false) × (clockWouldPass (recordsOf l) v′ ≡ false)
-  passed-late = late-passed (leb (recordsIn l) v′) (clockWouldPass (recordsOf l) v′) (sym (refusal-late l card arity passed-early) ∙ none)
+  passed-late =
+      late-passed (leb (recordsIn l) v′) (clockWouldPass (recordsOf l) v′)
+      (sym (refusal-late l card arity passed-early) ∙ none)
 
   within : v′ < recordsIn l
   within = leb-false (recordsIn l) v′ (passed-late .0)

@@ -1,5 +1,5 @@
--- What leaves with a record, slot by slot: the slots that leave are free afterwards, the parent has one child less, and every
--- other record is as it was. Assumes nothing.
+-- What leaves with a record, slot by slot: the slots that leave are free afterwards, the parent has one child less, and
+-- every other record is as it was. Assumes nothing.
 use Prim.Native.Nat.{ℕ, suc, _+_, _-_, _≤_, _<_}
 use mathlib.Core.Path.{_≡_, refl, sym, ap, _∙_}
 use mathlib.Core.Logic.{_↔_}
@@ -112,7 +112,8 @@ stayed-self v r m eight =
       unused = λ _. refl;
     }
 
-module _ (v : ℕ) (r : Record) (fits : r .count ≤ 8) (eight : length (r .slots) ≡ 8) (once : Distinct (children r)) (child : v ∈ children r) where
+module _ (v : ℕ) (r : Record) (fits : r .count ≤ 8) (eight : length (r .slots) ≡ 8) (once : Distinct (children r))
+    (child : v ∈ children r) where
   rest-length : suc (length (except v (children r))) ≡ r .count
   rest-length = sym (except-length v (children r) once child) ∙ children-length r (omega arith)
 
@@ -222,10 +223,12 @@ module _ {rows : List Record} {v : ℕ} (held : Held rows v) where
       (sym p, omega (arith, p, held .small, used-within (held .shaped) a (held-seen .parent-used a v i)))
 
   -- the parent of a record that is not the root
-  pub parent-child : (at rows v .parent ≡ noSlot → ⊥) → Used (at rows (at rows v .parent)) × v ∈ children (at rows (at rows v .parent))
+  pub parent-child : (at rows v .parent ≡ noSlot → ⊥)
+      → Used (at rows (at rows v .parent)) × v ∈ children (at rows (at rows v .parent))
   parent-child ne =
       held-seen .hung v (held .used)
-      (λ e. ne (ap (λ (a : ℕ). at rows a .parent) e ∙ rootOf-is (length rows) (at rows) (held .well-formed) held-some .2))
+      (λ e. ne (ap (λ (a : ℕ). at rows a .parent) e
+      ∙ rootOf-is (length rows) (at rows) (held .well-formed) held-some .2))
 
   pub unhung-root : at rows v .parent ≡ noSlot → unhung v rows ≡ rows
   unfolding unhung
@@ -240,7 +243,8 @@ module _ {rows : List Record} {v : ℕ} (held : Held rows v) where
   pub unhung-length : length (unhung v rows) ≡ length rows
   unhung-length = elim (ℕ-discrete (at rows v .parent) noSlot) [
     | yes e ↦ ap length (unhung-root e)
-    | no ne ↦ ap length (unhung-child ne) ∙ length-set rows (at rows v .parent) (disowning v (at rows (at rows v .parent)))
+    | no ne ↦ ap length (unhung-child ne)
+        ∙ length-set rows (at rows v .parent) (disowning v (at rows (at rows v .parent)))
   ]
 
   pub unhung-stayed : (a : ℕ) → Stayed v (at rows a) (at (unhung v rows) a)
@@ -258,7 +262,8 @@ module _ {rows : List Record} {v : ℕ} (held : Held rows v) where
           let z = parent-child ne in
           let within : p < length rows = used-within (held .shaped) p (z .0) in
           rw (unhung-child ne, e, getD-set-same rows p (disowning v (at rows p)) free within)
-          (stayed-disowning v (at rows p) (count-small p) (held .shaped .eight p) (children-distinct held-seen p) (z .1) (z .0))
+          (stayed-disowning v (at rows p) (count-small p) (held .shaped .eight p) (children-distinct held-seen p)
+          (z .1) (z .0))
     ]
   ]
 

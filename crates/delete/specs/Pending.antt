@@ -1,5 +1,5 @@
--- Lent bytes in which some records wait to go back: what the loop that puts them back asks of them, and how a turn leaves
--- them (`pending-next`). Assumes nothing.
+-- Lent bytes in which some records wait to go back: what the loop that puts them back asks of them, and how a turn
+-- leaves them (`pending-next`). Assumes nothing.
 use Prim.Native.Nat.{ℕ, _+_, _*_, _%_, _≤_, _<_}
 use mathlib.Core.Path.{_≡_, refl, sym, ap, _∙_}
 use mathlib.Core.List.{List, [], _∷_, List·Memᴰ·head as first}
@@ -30,7 +30,8 @@ use Rattle.delete.specs.Stale.{puts}
 use Rattle.delete.specs.Turn.{Turn, turn-next, turn-end}
 
 -- the bytes l hold the records `old` without slot v, of which the slots ss still wait
-pub record Pending (old : List Record) (v : ℕ) (l : List ℕ) (ss : List ℕ) (kind arity count depth root last : ℕ) : Type 0 where
+pub record Pending (old : List Record) (v : ℕ) (l : List ℕ) (ss : List ℕ)
+    (kind arity count depth root last : ℕ) : Type 0 where
   pub held : Held old v
   pub kind-is : kind ≡ kindOf (length old) (at old)
   pub to-8 : arity ≤ 8
@@ -78,7 +79,8 @@ module _ {old : List Record} {v : ℕ} {l : List ℕ} {ss : List ℕ} {kind arit
       let r = now .turn .returning in
       record {
         whole = now .whole;
-        few = λ a _. each (λ (q : Record). q .count ≤ 8) a (formed-few (h .shaped) (h .well-formed) a) (formed-few (r .shaped) (r .well-formed) a);
+        few = λ a _. each (λ (q : Record). q .count ≤ 8) a (formed-few (h .shaped) (h .well-formed) a)
+            (formed-few (r .shaped) (r .well-formed) a);
         stand = λ a i _ b.
             let inside : slot (recordOf l a) i < length old =
             each (λ (q : Record). i < q .count → slot q i < length old) a
@@ -88,7 +90,8 @@ module _ {old : List Record} {v : ℕ} {l : List ℕ} {ss : List ℕ} {kind arit
 
   pub pending-deep : depth ≤ 1024
   unfolding D
-  pending-deep = omega (arith, now .turn .depth-is, usedIn-most (length old) (at (freedAt ss (recordsOf l))), now .held .small)
+  pending-deep =
+      omega (arith, now .turn .depth-is, usedIn-most (length old) (at (freedAt ss (recordsOf l))), now .held .small)
 
 -- ---- the next that goes back
 
@@ -127,7 +130,8 @@ module _ {old : List Record} {v : ℕ} {l : List ℕ} {s : ℕ} {ss : List ℕ} 
   step = puts (apart kind) arity s (brought (at (recordsOf l) s)) (recordsOf l) depth root (last + 1)
 
   -- its count is small, so that the sum fits
-  pub pending-few : (m : List ℕ) (k : ℕ) → _≡_ {A = Placed} (record { rows = recordsOf m; count = k }) step → count + k ≤ 1048576
+  pub pending-few : (m : List ℕ) (k : ℕ) → _≡_ {A = Placed} (record { rows = recordsOf m; count = k }) step
+      → count + k ≤ 1048576
   pending-few m k e =
       let z = turn-next (now .held) (now .to-8) (now .turn) in
       let small = rw (← now .kind-is) at (z .0) in

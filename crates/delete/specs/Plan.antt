@@ -1,6 +1,6 @@
--- What the call works out before it writes, and that it is what the definition asks for: the keys in age order are the deleted
--- card's and those of the slots that wait, the largest timestamp is that of the records that stay, and the depth theirs.
--- Assumes nothing.
+-- What the call works out before it writes, and that it is what the definition asks for: the keys in age order are the
+-- deleted card's and those of the slots that wait, the largest timestamp is that of the records that stay, and the
+-- depth theirs. Assumes nothing.
 use Prim.Native.Nat.{ℕ, zero, suc, _+_, _-_, _%_, _≤_, _<_}
 use mathlib.Core.Path.{_≡_, refl, sym, ap, subst, _∙_}
 use mathlib.Core.Bool.{Bool, false, cond}
@@ -95,7 +95,8 @@ module _ {rows : List Record} {v : ℕ} (held : Held rows v) where
       let younger = below-younger (held-seen held) (z .1) in
       elder s (z .0) (z .1) ne younger
     where
-      elder : (s k : ℕ) → Below (λ a. children (at rows a)) s k v → (s ≡ v → ⊥) → at rows v .timestamp + k ≤ at rows s .timestamp
+      elder : (s k : ℕ) → Below (λ a. children (at rows a)) s k v → (s ≡ v → ⊥)
+          → at rows v .timestamp + k ≤ at rows s .timestamp
           → ageKey rows v ≤ ageKey rows s
       elder s zero (here e) ne h = absurd (ne e)
       elder s (suc k) p ne h = omega (arith, h, used-within (held .shaped) v (held .used), held .small)
@@ -121,7 +122,9 @@ module _ {rows : List Record} {v : ℕ} (held : Held rows v) where
   slots-from : (a : ℕ) → a ∈ map slotIn (inOrder (map (ageKey rows) (leaving rows v))) → a ∈ leaving rows v
   slots-from a i =
       let y = image-from slotIn a (inOrder (map (ageKey rows) (leaving rows v))) i in
-      let z = image-from (ageKey rows) (y .0) (leaving rows v) (member-of-inOrder (y .0) (map (ageKey rows) (leaving rows v)) (y .1)) in
+      let z =
+      image-from (ageKey rows) (y .0) (leaving rows v)
+      (member-of-inOrder (y .0) (map (ageKey rows) (leaving rows v)) (y .1)) in
       let e : a ≡ z .0 = y .2 ∙ ap slotIn (z .2) ∙ key-slot (z .0) (z .1) in
       rw e (z .1)
 
@@ -135,13 +138,18 @@ module _ {rows : List Record} {v : ℕ} (held : Held rows v) where
   slots-within i h =
       let l = inOrder (map (ageKey rows) (leaving rows v)) in
       let a = slots-from (slotIn (getD l i 0)) (image-to slotIn (getD l i 0) l (at-∈ l i h)) in
-      omega (arith, used-within (held .shaped) (slotIn (getD l i 0)) (leaving-used held (slotIn (getD l i 0)) a), held .small)
+      omega (
+        arith,
+        used-within (held .shaped) (slotIn (getD l i 0)) (leaving-used held (slotIn (getD l i 0)) a),
+        held .small,
+      )
 
   -- ---- the clock
 
   -- "the largest among the records that stay"
   pub staying-largest :
-      largestTimestamp (length rows) (unmarked (marked (inOrder (map (ageKey rows) (leaving rows v))) (replicate 1024 0)) (at rows))
+      largestTimestamp (length rows)
+      (unmarked (marked (inOrder (map (ageKey rows) (leaving rows v))) (replicate 1024 0)) (at rows))
       ≡ largestTimestamp (length rows) (at (removed rows v))
   staying-largest =
       let l = inOrder (map (ageKey rows) (leaving rows v)) in
@@ -149,7 +157,9 @@ module _ {rows : List Record} {v : ℕ} (held : Held rows v) where
       largest-same (length rows) (unmarked marks (at rows)) (at (removed rows v))
       (λ s b. elim (∈-decide s (leaving rows v)) [
         | yes i ↦
-            let e = marked-in l (replicate 1024 0) s (slots-to s i) (omega (arith, length-replicate {A = ℕ} 1024 0, held .small)) in
+            let e =
+            marked-in l (replicate 1024 0) s (slots-to s i)
+            (omega (arith, length-replicate {A = ℕ} 1024 0, held .small)) in
             timestamp-marked marks (at rows) s (λ z. omega (arith, e, z))
             ∙ sym (timestamp-free (at (removed rows v) s) (ap (λ (r : Record). r .card) (removed-in held s i)))
         | no m ↦
@@ -164,7 +174,8 @@ module _ {rows : List Record} {v : ℕ} (held : Held rows v) where
 
   -- ---- the depth
 
-  pub staying-used : usedIn (length rows) (at rows) - length (leaving rows v) ≡ usedIn (length rows) (at (removed rows v))
+  pub staying-used : usedIn (length rows) (at rows) - length (leaving rows v)
+      ≡ usedIn (length rows) (at (removed rows v))
   unfolding leaving
   staying-used =
       let n = length rows in
@@ -198,7 +209,9 @@ module _ (l : List ℕ) (whole : length l % 64 ≡ 0) (v : ℕ) (held : Held (re
       ∙ ap (λ (R : ℕ → Record). under (λ s. children (R s)) (usedIn (recordsIn l) R) v) as-bytes)
 
   pub lent-largest :
-      largestTimestamp (recordsIn l) (unmarked (marked (inOrder (map (ageKey (recordsOf l)) (leaving (recordsOf l) v))) (replicate 1024 0)) (recordOf l))
+      largestTimestamp (recordsIn l)
+      (unmarked (marked (inOrder (map (ageKey (recordsOf l)) (leaving (recordsOf l) v))) (replicate 1024 0))
+      (recordOf l))
       ≡ largestTimestamp (length (recordsOf l)) (at (removed (recordsOf l) v))
   lent-largest =
       let marks = marked (inOrder (map (ageKey (recordsOf l)) (leaving (recordsOf l) v))) (replicate 1024 0) in
@@ -218,7 +231,8 @@ module _ (l : List ℕ) (whole : length l % 64 ≡ 0) (v : ℕ) (held : Held (re
   lent-kind =
       ap (kindOf (recordsIn l)) (sym as-bytes) ∙ ap (λ (k : ℕ). kindOf k (at (recordsOf l))) (sym (records-length l))
 
-  -- what the call has worked out of the bytes l: the keys in age order, how many, and the largest timestamp of those that stay
+  -- what the call has worked out of the bytes l: the keys in age order, how many, and the largest timestamp of those
+  -- that stay
   pub record Planned (keys : List ℕ) (m last : ℕ) : Type 0 where
     pub keys-are : keys ≡ inOrder (map (ageKey (recordsOf l)) (leaving (recordsOf l) v))
     pub count-is : m ≡ suc (length (waiting (recordsOf l) v))
@@ -294,7 +308,8 @@ module _ (l : List ℕ) (whole : length l % 64 ≡ 0) (v : ℕ) (held : Held (re
           last-is =
               largest
               ∙ ap (λ (k : ℕ). largestTimestamp k (unmarked (marked keys (replicate 1024 0)) (recordOf l))) n-is
-              ∙ ap (λ (q : List ℕ). largestTimestamp (recordsIn l) (unmarked (marked q (replicate 1024 0)) (recordOf l))) (lent-order keys order)
+              ∙ ap (λ (q : List ℕ). largestTimestamp (recordsIn l)
+              (unmarked (marked q (replicate 1024 0)) (recordOf l))) (lent-order keys order)
               ∙ lent-largest;
         }
 
@@ -303,7 +318,8 @@ module _ (l : List ℕ) (whole : length l % 64 ≡ 0) (v : ℕ) (held : Held (re
     clock-is : clockWouldPass (recordsOf l) v ≡ ltb lastTimestamp (last + m - 1)
     unfolding clockWouldPass
     clock-is =
-        let e : largestTimestamp (length (recordsOf l)) (at (removed (recordsOf l) v)) + length (waiting (recordsOf l) v) ≡ last + m - 1 =
+        let e : largestTimestamp (length (recordsOf l)) (at (removed (recordsOf l) v)) + length
+        (waiting (recordsOf l) v) ≡ last + m - 1 =
         omega (arith, plan .count-is, plan .last-is) in
         ap (ltb lastTimestamp) e
 

@@ -1,6 +1,6 @@
--- Those that stood below the deleted card go back one at a time: at each turn the records are well formed, and sound if they
--- were, and each card that has gone back is as it was brought (`Returning`). From the theorem about one placing, by
--- induction on those that wait. Assumes nothing.
+-- Those that stood below the deleted card go back one at a time: at each turn the records are well formed, and sound if
+-- they were, and each card that has gone back is as it was brought (`Returning`). From the theorem about one placing,
+-- by induction on those that wait. Assumes nothing.
 use Prim.Native.Nat.{ℕ, suc, _+_, _≤_, _<_}
 use mathlib.Core.Path.{_≡_, refl, sym, ap, _∙_}
 use mathlib.Core.Logic.{_↔_}
@@ -114,7 +114,8 @@ module _ {old : List Record} {v arity : ℕ} (held : Held old v) (to-8 : arity �
                   (new .card-new) (new .kind-new) (new .readings-new))
               | no ns ↦
                   let k = new .kept a ns in
-                  brought-is (at (placed d arity s (brought (at old s)) rows .rows) a) (brought (at rows a)) (k .card) (k .kind) (k .readings)
+                  brought-is (at (placed d arity s (brought (at old s)) rows .rows) a) (brought (at rows a)) (k .card)
+                  (k .kind) (k .readings)
                   ∙ r .others a (elim [ first e ↦ ns e | later i ↦ m i ]) nv
             ];
           }
@@ -126,12 +127,14 @@ module _ {old : List Record} {v arity : ℕ} (held : Held old v) (to-8 : arity �
       returning-largest = settled-largest returning-ready new refl
 
       pub returning-usedIn :
-          usedIn (length old) (at (placed d arity s (brought (at old s)) rows .rows)) ≡ suc (usedIn (length old) (at rows))
+          usedIn (length old) (at (placed d arity s (brought (at old s)) rows .rows))
+          ≡ suc (usedIn (length old) (at rows))
       returning-usedIn = settled-usedIn returning-ready new
 
     pub returning-sound :
         SoundTable (length old) (at rows)
-        → SoundTable (length old) (at (placed (apart (kindOf (length old) (at old))) arity s (brought (at old s)) rows .rows))
+        → SoundTable (length old)
+        (at (placed (apart (kindOf (length old) (at old))) arity s (brought (at old s)) rows .rows))
     returning-sound ok =
         rw (kindOf-is (length old) (at old) (held .well-formed) s within was-used)
         (placed-sound-table returning-ready ok)
@@ -149,14 +152,16 @@ module _ {old : List Record} {v arity : ℕ} (held : Held old v) (to-8 : arity �
       ≡ largestTimestamp (length old) (at (p .rows)) + length ss
   unfolding putBack
   returned-largest d [] p r = omega arith
-  returned-largest d (s ∷ ss) p r = omega (arith, returned-largest d ss (oneBack d arity old s p) (returning-next r d), returning-largest r d)
+  returned-largest d (s ∷ ss) p r =
+      omega (arith, returned-largest d ss (oneBack d arity old s p) (returning-next r d), returning-largest r d)
 
   pub returned-usedIn : (d : List ℕ → List ℕ → ℕ) (ss : List ℕ) (p : Placed) → Returning old v ss (p .rows)
       → usedIn (length old) (at (putBack d arity old ss p .rows))
       ≡ usedIn (length old) (at (p .rows)) + length ss
   unfolding putBack
   returned-usedIn d [] p r = omega arith
-  returned-usedIn d (s ∷ ss) p r = omega (arith, returned-usedIn d ss (oneBack d arity old s p) (returning-next r d), returning-usedIn r d)
+  returned-usedIn d (s ∷ ss) p r =
+      omega (arith, returned-usedIn d ss (oneBack d arity old s p) (returning-next r d), returning-usedIn r d)
 
   pub returned-sound : (ss : List ℕ) (p : Placed) → Returning old v ss (p .rows)
       → SoundTable (length old) (at (p .rows))
@@ -164,7 +169,8 @@ module _ {old : List Record} {v arity : ℕ} (held : Held old v) (to-8 : arity �
   unfolding putBack
   returned-sound [] p r ok = ok
   returned-sound (s ∷ ss) p r ok =
-      returned-sound ss (oneBack (apart (kindOf (length old) (at old))) arity old s p) (returning-next r (apart (kindOf (length old) (at old)))) (returning-sound r ok)
+      returned-sound ss (oneBack (apart (kindOf (length old) (at old))) arity old s p)
+      (returning-next r (apart (kindOf (length old) (at old)))) (returning-sound r ok)
 
 -- ---- the first turn
 

@@ -1,6 +1,6 @@
--- The insert rule on records of which some wait: it looks at no record that waits, so that it leaves the same records and
--- gives the same count as where those that wait are free (`puts-freed`, `puts-count`). The key idea: a walk from the root
--- sees used records alone. Assumes nothing.
+-- The insert rule on records of which some wait: it looks at no record that waits, so that it leaves the same records
+-- and gives the same count as where those that wait are free (`puts-freed`, `puts-count`). The key idea: a walk from
+-- the root sees used records alone. Assumes nothing.
 use Prim.Native.Nat.{ℕ, suc, _+_, _*_, _≤_, _<_}
 use mathlib.Core.Path.{_≡_, refl, sym, ap, _∙_}
 use mathlib.Core.List.{List, [], _∷_, List·Memᴰ·head as first, List·Memᴰ·tail as later}
@@ -123,7 +123,8 @@ module _ (d : List ℕ → List ℕ → ℕ) where
     unfolding puts
     puts-root C depth root t e = rw (eq-eqb depth 0 e)
 
-    pub puts-child : (C : List Record) (depth root t : ℕ) → (depth ≡ 0 → ⊥) → puts C depth root t ≡ hanging d arity s x C t depth root
+    pub puts-child : (C : List Record) (depth root t : ℕ) → (depth ≡ 0 → ⊥)
+        → puts C depth root t ≡ hanging d arity s x C t depth root
     unfolding puts
     puts-child C depth root t ne = rw (ne-eqb depth 0 ne)
 
@@ -182,15 +183,20 @@ module _ {old : List Record} {v arity : ℕ} (held : Held old v) (to-8 : arity �
       | yes e ↦
           rw (eq-eqb depth 0 e, eq-eqb (usedIn (length old) (at D)) 0 (sym depth-is ∙ e))
       | no ne ↦
-          rw
-          (ne-eqb depth 0 ne, ne-eqb (usedIn (length old) (at D)) 0 (λ e. ne (depth-is ∙ e)), root-is (omega arith), depth-is)
+          rw (
+            ne-eqb depth 0 ne,
+            ne-eqb (usedIn (length old) (at D)) 0 (λ e. ne (depth-is ∙ e)),
+            root-is (omega arith),
+            depth-is,
+          )
     ])
 
     module _ (some : 1 ≤ depth) where
       seen : Formed (viewOf (at D)) (length old) root
       seen = rw (root-is some) (formed-view (held .small) (r .shaped) (r .well-formed) (omega arith))
 
-      same-walk : path d (viewOf (at C)) (x .readings) arity depth root ≡ path d (viewOf (at D)) (x .readings) arity depth root
+      same-walk : path d (viewOf (at C)) (x .readings) arity depth root
+          ≡ path d (viewOf (at D)) (x .readings) arity depth root
       same-walk =
           path-same d (viewOf (at D)) (viewOf (at C)) (x .readings) arity
           (λ a. Used (at D a))

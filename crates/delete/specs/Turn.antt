@@ -51,8 +51,8 @@ module _ (arity : ℕ) (old : List Record) (v : ℕ) where
   abbrev d : List ℕ → List ℕ → ℕ
   d = apart (kindOf (length old) (at old))
 
-  -- the slots ss wait; C: the records, in which those that wait are as before the call; depth, root and last: how many are
-  -- in the tree, its root, and the largest timestamp there
+  -- the slots ss wait; C: the records, in which those that wait are as before the call; depth, root and last: how many
+  -- are in the tree, its root, and the largest timestamp there
   pub record Turn (ss : List ℕ) (C : List Record) (count depth root last : ℕ) : Type 0 where
     pub length-is : length C ≡ length old
     pub returning : Returning old v ss (freedAt ss C)
@@ -101,7 +101,8 @@ module _ {arity : ℕ} {old : List Record} {v : ℕ} (held : Held old v) (to-8 :
               let k = after .kept r ns in
               rw (ne-eqb depth 0 ne)
               (now .root-is (omega arith)
-              ∙ after .well-formed .one-root r (rootOf n (at next)) (was .0) (new .0) (rw (k .card) (was .1)) (new .1) (k .parent ∙ was .2) (new .2))
+              ∙ after .well-formed .one-root r (rootOf n (at next)) (was .0) (new .0) (rw (k .card) (was .1)) (new .1)
+              (k .parent ∙ was .2) (new .2))
         ]
 
     onward :
@@ -130,7 +131,8 @@ module _ {arity : ℕ} {old : List Record} {v : ℕ} (held : Held old v) (to-8 :
         rw (same, now .last-is) (
           omega (arith, few, held .small),
           record {
-            length-is = puts-length dist arity s x C depth root (largestTimestamp (length old) (at D) + 1) ∙ now .length-is;
+            length-is =
+                puts-length dist arity s x C depth root (largestTimestamp (length old) (at D) + 1) ∙ now .length-is;
             returning = rw freed (returning-next held to-8 r dist);
             stale = λ a i. stale a i ∙ now .stale a (later i);
             depth-is = rw freed (omega (arith, now .depth-is, returning-usedIn held to-8 r dist));
@@ -153,7 +155,8 @@ module _ {arity : ℕ} {old : List Record} {v : ℕ} (held : Held old v) (to-8 :
 
   -- ---- the start: v has left its parent, and its slot is free
 
-  begun-free : (ws : List ℕ) → ((a : ℕ) → a ∈ ws → a ∈ drop 1 (leaving old v)) → ((a : ℕ) → a ∈ drop 1 (leaving old v) → a ∈ ws)
+  begun-free : (ws : List ℕ) → ((a : ℕ) → a ∈ ws → a ∈ drop 1 (leaving old v))
+      → ((a : ℕ) → a ∈ drop 1 (leaving old v) → a ∈ ws)
       → freedAt ws (set (unhung v old) v free) ≡ removed old v
   unfolding removed
   begun-free ws from to =

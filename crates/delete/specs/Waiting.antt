@@ -1,5 +1,5 @@
--- The slots that wait to go back are those that stood below the deleted card, each once. The key idea: a key's last 65,536
--- tell its slot, so keys in order are the slots in another order. Assumes nothing.
+-- The slots that wait to go back are those that stood below the deleted card, each once. The key idea: a key's last
+-- 65,536 tell its slot, so keys in order are the slots in another order. Assumes nothing.
 use Prim.Native.Nat.{ℕ, _%_, _≤_, _<_}
 use mathlib.Core.Path.{_≡_, sym, ap, _∙_}
 use mathlib.Core.Logic.{_↔_}

@@ -1,4 +1,5 @@
--- What each of the newcomer's changes of a record comes to: a radius, a child, and the eight child slots. Assumes nothing.
+-- What each of the newcomer's changes of a record comes to: a radius, a child, and the eight child slots. Assumes
+-- nothing.
 use Prim.Native.Nat.{ℕ, zero, suc, _+_, _≤_, _<_, max}
 use mathlib.Core.Path.{_≡_, refl, sym, ap, _∙_}
 use mathlib.Core.List.{List}

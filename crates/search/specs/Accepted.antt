@@ -106,8 +106,10 @@ module _ {l : List ℕ} (ok : Readable l) where
 
 -- the root of a used table stands in it
 pub root-stands :
-    {l : List ℕ} (ok : Readable l) → 1 ≤ usedIn (recordsIn l) (recordOf l) → Stands l (rootOf (recordsIn l) (recordOf l))
-root-stands {l} ok some = omega (arith, whole (length l) (ok .size) .0, rootOf-is (recordsIn l) (recordOf l) (well ok) some .0)
+    {l : List ℕ} (ok : Readable l) → 1 ≤ usedIn (recordsIn l) (recordOf l)
+    → Stands l (rootOf (recordsIn l) (recordOf l))
+root-stands {l} ok some =
+    omega (arith, whole (length l) (ok .size) .0, rootOf-is (recordsIn l) (recordOf l) (well ok) some .0)
 
 -- four bytes hold no timestamp that the walk's first bound cuts off
 pub unbounded : (l : List ℕ) → Bytes l → Late (viewOf (recordOf l)) noBound
@@ -117,7 +119,8 @@ unbounded l h a u = number-lt 4 l (timestampAt a) h
 -- ---- the walk
 
 listed-length :
-    (kind : ℕ) (v : View (List ℕ)) (q : List ℕ) (r : ℕ) (es : List ℕ) → length (listed (apart kind) v q r es) ≤ length es
+    (kind : ℕ) (v : View (List ℕ)) (q : List ℕ) (r : ℕ) (es : List ℕ)
+    → length (listed (apart kind) v q r es) ≤ length es
 unfolding listed keep
 listed-length kind v q r [] = omega arith
 listed-length kind v q r (a ∷ es) =
@@ -198,7 +201,8 @@ pub walk-entered :
     → Bytes l
     → Fit q
     → 1 ≤ usedIn n (recordOf l)
-    → enteredFrom (query l kind q r) (usedIn n (recordOf l)) (rootOf n (recordOf l)) noBound ≡ entered n (recordOf l) kind q r
+    → enteredFrom (query l kind q r) (usedIn n (recordOf l)) (rootOf n (recordOf l)) noBound
+    ≡ entered n (recordOf l) kind q r
 unfolding recordOf
 walk-entered l q n kind r h f some =
     let fits : (a : ℕ) → Fit (recordOf l a .readings) = λ a. readings-fit l (signatureAt a) h in
@@ -220,7 +224,8 @@ module _ {l : List ℕ} (ok : Readable l) (bytes : Bytes l) (kind : ℕ) (q : Li
   -- what the walk from the root leaves of a list
   pub walk-leaves :
       (list : List ℕ)
-      → walked (query l kind q r) list 0 1 (usedIn (recordsIn l) (recordOf l)) (rootOf (recordsIn l) (recordOf l)) noBound
+      → walked (query l kind q r) list 0 1 (usedIn (recordsIn l) (recordOf l))
+      (rootOf (recordsIn l) (recordOf l)) noBound
       ≡ state
       (sets list 0 (cards (recordsIn l) (recordOf l) kind q r))
       (length (cards (recordsIn l) (recordOf l) kind q r))

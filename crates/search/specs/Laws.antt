@@ -87,7 +87,8 @@ module _ (n : ℕ) (R : ℕ → Record) (kind : ℕ) (q : List ℕ) (r : ℕ) wh
 
 -- a smaller radius never costs more
 pub distances-narrower :
-    (n : ℕ) (R : ℕ → Record) (kind : ℕ) (q : List ℕ) {r r′ : ℕ} → r ≤ r′ → distances n R kind q r ≤ distances n R kind q r′
+    (n : ℕ) (R : ℕ → Record) (kind : ℕ) (q : List ℕ) {r r′ : ℕ} → r ≤ r′
+    → distances n R kind q r ≤ distances n R kind q r′
 distances-narrower n R kind q {r} {r′} h = elim (ℕ-discrete (usedIn n R) 0) [
   | yes e ↦ omega (arith, distances-none n R kind q r e)
   | no ne ↦

@@ -128,7 +128,8 @@ same-length c = search needs
 
 returns-3 : tie.Need-returns-3
 returns-3 c =
-    let a = c .before .before .before .before .before .before .before .before .before .before .before .before .before .args in
+    let a =
+    c .before .before .before .before .before .before .before .before .before .before .before .before .before .args in
     let l = a .t .now in
     let s = a .signature .now in
     let e = refusal-none (c .before .before .before .before .before) in

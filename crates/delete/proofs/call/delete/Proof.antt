@@ -42,7 +42,8 @@ returns c =
     ∙ early-refused l (a .card) (a .arity) (λ z. c .before .if1 .taken (e ∙ z))
 
 -- the first tests are passed
-passed : (c : tie.Else1) → let a = c .before .before .before .before .args in earlyOf (a .t .now) (a .card) (a .arity) ≡ done
+passed : (c : tie.Else1)
+    → let a = c .before .before .before .before .args in earlyOf (a .t .now) (a .card) (a .arity) ≡ done
 passed c = sym (c .before .early-refusal .ensures) ∙ c .if1 .left
 
 slot-of-card-requires : tie.Need-slot-of-card-requires
@@ -88,7 +89,8 @@ returns-3 c =
     let l = a .t .now in
     c .before .before .delete-at .ensures
     ∙ ap (λ (v : ℕ). outcomeAt l v (a .arity)) (c .before .before .before .before .before .slot-of-card .ensures)
-    ∙ present-done l (a .card) (a .arity) (passed (c .before .before .before .before .before .before .before)) (stands (c .before .before .before .before))
+    ∙ present-done l (a .card) (a .arity) (passed (c .before .before .before .before .before .before .before))
+    (stands (c .before .before .before .before))
 
 pub delete-spec : {M : Type 1} → statement M
 delete-spec =

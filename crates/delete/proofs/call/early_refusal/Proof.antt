@@ -1,4 +1,5 @@
--- `delete::call::early_refusal` meets its contract: each test is made where those before it are passed. Assumes nothing.
+-- `delete::call::early_refusal` meets its contract: each test is made where those before it are passed. Assumes
+-- nothing.
 use mathlib.Core.Path.{sym, _∙_}
 use lib.ListN.{length}
 use borrow.Author.Tests.{not-true, not-false}
@@ -34,14 +35,16 @@ right-arguments-requires c κs = search needs
 returns-3 : tie.Need-returns-3
 returns-3 c =
     early-none _ _ _
-    (sym (c .before .before .before .before .before .right-size .ensures) ∙ not-false _ (c .before .before .before .before .if1 .left))
+    (sym (c .before .before .before .before .before .right-size .ensures)
+    ∙ not-false _ (c .before .before .before .before .if1 .left))
     (sym (c .before .before .before .well-formed .ensures) ∙ not-false _ (c .before .before .if2 .left))
     (sym (c .before .right-arguments .ensures) ∙ c .if3 .taken)
 
 returns-4 : tie.Need-returns-4
 returns-4 c =
     early-argument _ _ _
-    (sym (c .before .before .before .before .before .right-size .ensures) ∙ not-false _ (c .before .before .before .before .if1 .left))
+    (sym (c .before .before .before .before .before .right-size .ensures)
+    ∙ not-false _ (c .before .before .before .before .if1 .left))
     (sym (c .before .before .before .well-formed .ensures) ∙ not-false _ (c .before .before .if2 .left))
     (sym (c .before .right-arguments .ensures) ∙ c .if3 .left)
 

@@ -1,5 +1,5 @@
--- `delete::gather::gather` meets its contract. The falling number is the depth left. The loop's invariant: what is left of the
--- children's turn, gathered after the keys so far, is what this record and all below it give. Assumes nothing.
+-- `delete::gather::gather` meets its contract. The falling number is the depth left. The loop's invariant: what is left
+-- of the children's turn, gathered after the keys so far, is what this record and all below it give. Assumes nothing.
 use Prim.Native.Nat.{ℕ, _+_, _-_, _≤_, _<_}
 use mathlib.Core.Path.{_≡_, refl, sym, ap, _∙_}
 use mathlib.Core.List.{List}
@@ -74,15 +74,18 @@ module _ (τ : ℕ) where
   add-at c =
       let a = c .before .before .before .before .before .before .before .before .args in
       let R = recordOf (a .t .now) in
-      let some = ap length (Gathering.under-first R (a .left) (a .a) (c .before .before .before .before .before .if1 .left)) in
-      let room : a .m < length (a .keys .now) = omega (arith, c .before .before .before .before .before .before .before .before .pre .1 .3, some) in
+      let some =
+      ap length (Gathering.under-first R (a .left) (a .a) (c .before .before .before .before .before .if1 .left)) in
+      let room : a .m < length (a .keys .now) =
+      omega (arith, c .before .before .before .before .before .before .before .before .pre .1 .3, some) in
       search needs
 
   -- this record's key is written: the children's turn is left
   begun : (c : gather-lts.After-child-count (Known τ) (gather-at τ) gather.Post Inv-loop μ-loop) →
       let a = c .before .before .before .before .before .before .before .before .args in
       let R = recordOf (a .t .now) in
-      gathered R (c .before .before .before .note-key .last .1 .1 .0) (a .m + 1) (Gathering.restFrom R (a .left - 1) (a .a) 0)
+      gathered R (c .before .before .before .note-key .last .1 .1 .0) (a .m + 1)
+      (Gathering.restFrom R (a .left - 1) (a .a) 0)
       ≡ gathered R (a .keys .now) (a .m) (slotsUnder R (a .left) (a .a))
   begun c =
       let a = c .before .before .before .before .before .before .before .before .args in
@@ -90,7 +93,8 @@ module _ (τ : ℕ) where
       let rest = Gathering.restFrom R (a .left - 1) (a .a) 0 in
       ap (λ (l : List ℕ). gathered R l (a .m + 1) rest) (c .before .before .before .note-key .ensures)
       ∙ Gathering.gathered-first R (a .keys .now) (a .m) (a .a) rest
-      ∙ ap (gathered R (a .keys .now) (a .m)) (sym (Gathering.under-first R (a .left) (a .a) (c .before .before .before .before .before .if1 .left)))
+      ∙ ap (gathered R (a .keys .now) (a .m))
+      (sym (Gathering.under-first R (a .left) (a .a) (c .before .before .before .before .before .if1 .left)))
 
   few : (c : gather-lts.After-child-count (Known τ) (gather-at τ) gather.Post Inv-loop μ-loop) →
       let a = c .before .before .before .before .before .before .before .before .args in
@@ -118,7 +122,8 @@ module _ (τ : ℕ) where
       let a = c .before .before .before .before .before .before .before .before .before .args in
       let R = recordOf (a .t .now) in
       (length (c .loop .keys) ≡ length (a .keys .now))
-      × (c .loop .at + length (Gathering.restFrom R (a .left - 1) (a .a) (c .loop .k)) ≡ a .m + length (slotsUnder R (a .left) (a .a)))
+      × (c .loop .at + length (Gathering.restFrom R (a .left - 1) (a .a) (c .loop .k))
+      ≡ a .m + length (slotsUnder R (a .left) (a .a)))
   reach c =
       let a = c .before .before .before .before .before .before .before .before .before .args in
       let R = recordOf (a .t .now) in
@@ -134,8 +139,10 @@ module _ (τ : ℕ) where
 
   slot-of-requires : gather-lts.Need-slot-of-requires (Known τ) (gather-at τ) gather.Post Inv-loop μ-loop
   slot-of-requires c κs =
-      let f = few (c .before .before) in
-      (c .before .before .before .before .before .before .before .before .before .before .pre .1 .1, omega (arith, f .1, c .loop-test .taken))
+      let f = few (c .before .before) in (
+        c .before .before .before .before .before .before .before .before .before .before .pre .1 .1,
+        omega (arith, f .1, c .loop-test .taken),
+      )
 
   cast-c : gather-lts.Need-cast-c (Known τ) (gather-at τ) gather.Post Inv-loop μ-loop
   cast-c c = search needs
@@ -151,13 +158,23 @@ module _ (τ : ℕ) where
       let l = c .before .before .before .loop in
       let f = few (c .before .before .before .before) in
       let k : l .k < R (a .a) .count = omega (arith, f .0, c .before .before .loop-test .taken) in
-      let more = ap length (Gathering.rest-more R (a .left - 1) (a .a) (l .k) (c .before .slot-of .result) (f .2) k (c .before .slot-of .ensures)) in (
+      let more =
+      ap length (Gathering.rest-more R (a .left - 1) (a .a) (l .k) (c .before .slot-of .result) (f .2) k
+      (c .before .slot-of .ensures)) in (
         omega (arith, p .0, c .before .before .before .before .before .before .before .before .before .if1 .left),
         (
           p .1 .0,
           rw (c .before .slot-of .ensures) (p .1 .0 .stand (a .a) (l .k) (p .1 .1) k),
           p .1 .2,
-          omega (arith, more, length-append (slotsUnder R (a .left - 1) (c .before .slot-of .result)) (Gathering.restFrom R (a .left - 1) (a .a) (l .k + 1)), reach (c .before .before .before) .0, reach (c .before .before .before) .1, p .1 .3),
+          omega (
+            arith,
+            more,
+            length-append (slotsUnder R (a .left - 1) (c .before .slot-of .result))
+                (Gathering.restFrom R (a .left - 1) (a .a) (l .k + 1)),
+            reach (c .before .before .before) .0,
+            reach (c .before .before .before) .1,
+            p .1 .3,
+          ),
         ),
       )
 
@@ -169,11 +186,14 @@ module _ (τ : ℕ) where
 
   loop-again : gather-lts.Need-loop-again (Known τ) (gather-at τ) gather.Post Inv-loop μ-loop
   loop-again c =
-      let a = c .before .before .before .before .before .before .before .before .before .before .before .before .before .before .before .args in
+      let a =
+      c .before .before .before .before .before .before .before .before .before .before .before .before .before
+      .before .before .args in
       let R = recordOf (a .t .now) in
       let l = c .before .before .before .before .before .before .loop in
       let f = few (c .before .before .before .before .before .before .before) in
-      let k : l .k < R (a .a) .count = omega (arith, f .0, c .before .before .before .before .before .loop-test .taken) in
+      let k : l .k < R (a .a) .count =
+      omega (arith, f .0, c .before .before .before .before .before .loop-test .taken) in
       let at-child = c .before .before .before .before .slot-of in
       let low = slotsUnder R (a .left - 1) (at-child .result) in
       let rest = Gathering.restFrom R (a .left - 1) (a .a) (l .k + 1) in

@@ -1,4 +1,5 @@
--- `delete::gather::in_age_order` meets its contract: the keys are gathered, and sorted where they stand. Assumes nothing.
+-- `delete::gather::in_age_order` meets its contract: the keys are gathered, and sorted where they stand. Assumes
+-- nothing.
 use mathlib.Core.Path.{_≡_, sym, ap, _∙_}
 use mathlib.Core.List.{map}
 use lib.ListN.{length, length-map, take, drop}
@@ -27,11 +28,14 @@ whole : (c : tie.After-gather) →
 whole c =
     let a = c .before .before .before .before .args in
     let R = recordOf (a .t .now) in
-    Gathering.gathered-whole R (a .keys .now) (slotsUnder R (a .used) (a .v)) (c .gather .last .1 .1 .0) (c .gather .result)
+    Gathering.gathered-whole R (a .keys .now) (slotsUnder R (a .used) (a .v)) (c .gather .last .1 .1 .0)
+    (c .gather .result)
     (c .before .before .before .before .pre .3) (c .gather .ensures)
 
 slice-relend-prefix-sort : tie.Need-slice-relend-prefix-sort
-slice-relend-prefix-sort c = let w = whole (c .before .before) in omega (arith, w .0, w .1, c .before .before .before .before .before .before .pre .3)
+slice-relend-prefix-sort c =
+    let w =
+    whole (c .before .before) in omega (arith, w .0, w .1, c .before .before .before .before .before .before .pre .3)
 
 slice-aggregate-sort : tie.Need-slice-aggregate-sort
 slice-aggregate-sort c =
@@ -49,7 +53,9 @@ sort-requires c κs =
     let a = c .before .before .before .before .before .before .before .before .args in
     let R = recordOf (a .t .now) in
     let p = c .before .before .before .before .before .before .before .before .pre in
-    let long : length (take (c .before .before .before .before .gather .result) (c .before .before .before .before .gather .last .1 .1 .0)) ≡ length (slotsUnder R (a .used) (a .v)) =
+    let long : length
+    (take (c .before .before .before .before .gather .result)
+    (c .before .before .before .before .gather .last .1 .1 .0)) ≡ length (slotsUnder R (a .used) (a .v)) =
     ap length (w .2) ∙ length-map (slotsUnder R (a .used) (a .v)) (keyOf R) in
     omega (arith, long, p .3, p .4)
 

@@ -1,5 +1,5 @@
--- `delete::remove::close_up` meets its contract. The loop's invariant: of the first k child slots those that stay stand first,
--- w of them, and nothing else has changed. Assumes nothing.
+-- `delete::remove::close_up` meets its contract. The loop's invariant: of the first k child slots those that stay stand
+-- first, w of them, and nothing else has changed. Assumes nothing.
 use Prim.Native.Nat.{ℕ, _+_, _*_, _-_, _≤_, _<_}
 use mathlib.Core.Path.{_≡_, refl, sym, ap, _∙_}
 use mathlib.Core.Logic.{⊎-elim}
@@ -41,7 +41,8 @@ loop-holds c =
       omega arith,
       refl,
       sym (kept-none (a .v) (r .slots)),
-      became-by (became-none (a .t .now) (a .p) (c .before .pre .0)) (ap (withSlots r) (sym (closing-none (a .v) (r .slots)))) refl,
+      became-by (became-none (a .t .now) (a .p) (c .before .pre .0))
+          (ap (withSlots r) (sym (closing-none (a .v) (r .slots)))) refl,
     )
 
 slot-of-requires : tie.Need-slot-of-requires Inv-loop μ-loop
@@ -55,7 +56,13 @@ put-slot-requires c κs =
     let a = c .before .before .before .before .before .before .before .args in
     let l = c .before .before .before .before .before .loop in
     let few : l .w < 8 =
-    omega (arith, l .inv .2, kept-at-most (a .v) (recordOf (a .t .now) (a .p) .slots) (l .k), c .before .before .before .before .loop-test .taken, c .before .before .before .before .before .before .before .pre .1) in
+    omega (
+      arith,
+      l .inv .2,
+      kept-at-most (a .v) (recordOf (a .t .now) (a .p) .slots) (l .k),
+      c .before .before .before .before .loop-test .taken,
+      c .before .before .before .before .before .before .before .pre .1,
+    ) in
     search needs
 
 add-w : tie.Need-add-w Inv-loop μ-loop
@@ -63,7 +70,13 @@ add-w c =
     let a = c .before .before .before .before .before .before .before .before .before .before .args in
     let l = c .before .before .before .before .before .before .before .before .loop in
     let few : l .w < 8 =
-    omega (arith, l .inv .2, kept-at-most (a .v) (recordOf (a .t .now) (a .p) .slots) (l .k), c .before .before .before .before .before .before .before .loop-test .taken, c .before .before .before .before .before .before .before .before .before .before .pre .1) in
+    omega (
+      arith,
+      l .inv .2,
+      kept-at-most (a .v) (recordOf (a .t .now) (a .p) .slots) (l .k),
+      c .before .before .before .before .before .before .before .loop-test .taken,
+      c .before .before .before .before .before .before .before .before .before .before .pre .1,
+    ) in
     search needs
 
 add-k : tie.Need-add-k Inv-loop μ-loop
@@ -78,14 +91,22 @@ loop-again c =
     let r = recordOf (a .t .now) (a .p) in
     let l = c .before .before .before .before .loop in
     let less : l .k < a .n = c .before .before .before .loop-test .taken in
-    let within : l .k < length (r .slots) = omega (arith, slots-length (a .t .now) (a .p), less, c .before .before .before .before .before .before .pre .1) in
-    let long : a .p * 64 + 64 ≤ length (l .t) = omega (arith, l .inv .1, c .before .before .before .before .before .before .pre .0) in
+    let within : l .k < length (r .slots) =
+    omega (arith, slots-length (a .t .now) (a .p), less, c .before .before .before .before .before .before .pre .1) in
+    let long : a .p * 64 + 64 ≤ length (l .t) =
+    omega (arith, l .inv .1, c .before .before .before .before .before .before .pre .0) in
     let child : c .before .slot-of .result ≡ getD (r .slots) (l .k) 0 =
     c .before .slot-of .ensures
     ∙ ap (λ (q : Record). getD (q .slots) (l .k) 0) (l .inv .3 .here)
     ∙ closing-at (a .v) (r .slots) (l .k) within in
     let few : l .w < 8 =
-    omega (arith, l .inv .2, kept-at-most (a .v) (r .slots) (l .k), less, c .before .before .before .before .before .before .pre .1) in
+    omega (
+      arith,
+      l .inv .2,
+      kept-at-most (a .v) (r .slots) (l .k),
+      less,
+      c .before .before .before .before .before .before .pre .1,
+    ) in
     ⊎-elim
     (λ w.
     let ne : getD (r .slots) (l .k) 0 ≡ a .v → ⊥ = λ e. w .0 .taken (child ∙ e) in

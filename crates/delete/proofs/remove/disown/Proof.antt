@@ -1,5 +1,5 @@
--- `delete::remove::disown` meets its contract: the child slots are closed up, the last becomes 65,535, and the count is one less.
--- Assumes nothing.
+-- `delete::remove::disown` meets its contract: the child slots are closed up, the last becomes 65,535, and the count is
+-- one less. Assumes nothing.
 use Prim.Native.Nat.{ℕ, _+_, _*_, _-_, _≤_}
 use mathlib.Core.Path.{_≡_, refl, ap, _∙_}
 use lib.ListN.{length}
@@ -42,25 +42,50 @@ same-length c = search needs
 
 returns : tie.Need-returns
 returns c =
-    let a = c .before .before .before .before .before .before .before .before .before .before .before .before .before .before .before .args in
+    let a =
+    c .before .before .before .before .before .before .before .before .before .before .before .before .before .before
+    .before .args in
     let l = a .t .now in
     let p = a .p in
     let v = a .v in
     let r = recordOf l p in
-    let h = c .before .before .before .before .before .before .before .before .before .before .before .before .before .before .before .pre .1 in
-    let n = c .before .before .before .before .before .before .before .before .before .before .before .before .count-of .result in
-    let count : n ≡ r .count = c .before .before .before .before .before .before .before .before .before .before .before .before .count-of .ensures in
-    let closed : Became l p (withSlots r (closing v (r .slots) n)) (c .before .before .before .before .before .before .before .before .before .before .close-up .last .0) = c .before .before .before .before .before .before .before .before .before .before .close-up .ensures in
-    let long1 : p * 64 + 64 ≤ length (c .before .before .before .before .before .before .before .before .before .before .close-up .last .0) = omega (arith, closed .same-length, c .before .before .before .before .before .before .before .before .before .before .before .before .before .before .before .pre .0) in
+    let h =
+    c .before .before .before .before .before .before .before .before .before .before .before .before .before .before
+    .before .pre .1 in
+    let n =
+    c .before .before .before .before .before .before .before .before .before .before .before .before .count-of
+    .result in
+    let count : n ≡ r .count =
+    c .before .before .before .before .before .before .before .before .before .before .before .before .count-of
+    .ensures in
+    let closed : Became l p (withSlots r (closing v (r .slots) n))
+    (c .before .before .before .before .before .before .before .before .before .before .close-up .last .0) = c .before
+    .before .before .before .before .before .before .before .before .before .close-up .ensures in
+    let long1 : p * 64 + 64 ≤ length
+    (c .before .before .before .before .before .before .before .before .before .before .close-up .last .0) = omega (
+      arith,
+      closed .same-length,
+      c .before .before .before .before .before .before .before .before .before .before .before .before .before .before
+          .before .pre .0,
+    ) in
     let ended =
     became-by
     (then-with (λ q. withSlot q (n - 1) noSlot) closed
-    (put-slot (c .before .before .before .before .before .before .before .before .before .before .close-up .last .0) p long1 (n - 1) noSlot (omega (arith, h .some, h .to-8)) (omega arith)))
+    (put-slot (c .before .before .before .before .before .before .before .before .before .before .close-up .last .0) p
+    long1 (n - 1) noSlot (omega (arith, h .some, h .to-8)) (omega arith)))
     refl
     (c .before .before .before .before .before .before .put-slot .ensures) in
-    let long2 : p * 64 + 64 ≤ length (c .before .before .before .before .before .before .put-slot .last .0) = omega (arith, ended .same-length, c .before .before .before .before .before .before .before .before .before .before .before .before .before .before .before .pre .0) in
+    let long2 : p * 64 + 64 ≤ length (c .before .before .before .before .before .before .put-slot .last .0) =
+    omega (
+      arith,
+      ended .same-length,
+      c .before .before .before .before .before .before .before .before .before .before .before .before .before .before
+          .before .pre .0,
+    ) in
     became-by
-    (then-with (λ q. withCount q (n - 1)) ended (put-count (c .before .before .before .before .before .before .put-slot .last .0) p long2 (n - 1) (omega (arith, h .to-8))))
+    (then-with (λ q. withCount q (n - 1)) ended
+    (put-count (c .before .before .before .before .before .before .put-slot .last .0) p long2 (n - 1)
+    (omega (arith, h .to-8))))
     (ap (λ (k : ℕ). withCount (withSlot (withSlots r (closing v (r .slots) k)) (k - 1) noSlot) (k - 1)) count
     ∙ disowning-is v r (h .some) (h .to-8) (slots-length l p) (h .left) (h .past))
     (c .before .before .put-count .ensures)
