@@ -27,8 +27,6 @@ pub fn judge(table: &[u8]) -> Option<Survey> {
     let table = records(table);
     let mut survey = Survey { used: 0, root: 0, kind: 0, youngest: 0 };
     let (mut roots, mut links) = (0, 0);
-    let mut cards = [0; MOST_RECORDS];
-    let mut timestamps = [0; MOST_RECORDS];
     for (slot, record) in table.iter().enumerate() {
         if card(record) == 0 {
             if record.iter().any(|byte| *byte != 0) {
@@ -47,8 +45,6 @@ pub fn judge(table: &[u8]) -> Option<Survey> {
             survey.root = slot;
         }
         links += count(record);
-        cards[survey.used] = card(record);
-        timestamps[survey.used] = timestamp(record);
         survey.youngest = survey.youngest.max(timestamp(record));
         survey.used += 1;
     }
@@ -56,7 +52,7 @@ pub fn judge(table: &[u8]) -> Option<Survey> {
     if used > 0 && (roots != 1 || links != used - 1) {
         return None;
     }
-    (all_distinct(&cards[..used]) && all_distinct(&timestamps[..used])).then_some(survey)
+    (all_distinct(table, card) && all_distinct(table, timestamp)).then_some(survey)
 }
 
 fn own_fields_are_right(record: &Record, first_kind: u8) -> bool {
@@ -65,9 +61,15 @@ fn own_fields_are_right(record: &Record, first_kind: u8) -> bool {
         return false;
     }
     // The slots past the count are all ones.
-    child_slots(record).checked_shr(16 * count as u32).unwrap_or(0)
-        == u128::MAX.checked_shr(16 * count as u32).unwrap_or(0)
+    let slots = child_slots(record);
+    FIRST_FLOORS[count] <= slots as u64 && LAST_FLOORS[count] <= (slots >> 64) as u64
 }
+
+/// By the count of children: the least number that the first four child slots make if those past the count are 65,535.
+const FIRST_FLOORS: [u64; 9] = [u64::MAX, u64::MAX << 16, u64::MAX << 32, u64::MAX << 48, 0, 0, 0, 0, 0];
+/// The same of the last four.
+const LAST_FLOORS: [u64; 9] =
+    [u64::MAX, u64::MAX, u64::MAX, u64::MAX, u64::MAX, u64::MAX << 16, u64::MAX << 32, u64::MAX << 48, 0];
 
 fn links_are_right(table: &[Record], slot: usize, record: &Record) -> bool {
     let mut slots = child_slots(record);
@@ -90,25 +92,28 @@ const CELLS: usize = 4 * MOST_RECORDS;
 /// The cells that a key may look at before the keys are sorted instead, so that no choice of keys makes this slow.
 const PROBES: usize = 32;
 
-/// Whether the keys, none of them 0 and at most 1,024, are all different.
-pub fn all_distinct(keys: &[u32]) -> bool {
+/// Whether no two records have the same key, 0 aside.
+fn all_distinct(table: &[Record], key: impl Fn(&Record) -> u32) -> bool {
     let mut cells = [0u32; CELLS];
-    for key in keys {
-        let first = (key.wrapping_mul(0x9e37_79b9) >> 20) as usize;
-        let free = (first..first + PROBES).find(|cell| [0, *key].contains(&cells[cell % CELLS]));
-        let Some(cell) = free else { return all_distinct_by_order(keys) };
+    for record in table {
+        let key_here = key(record);
+        let first = (key_here.wrapping_mul(0x9e37_79b9) >> 20) as usize;
+        let free = (first..first + PROBES).find(|cell| [0, key_here].contains(&cells[cell % CELLS]));
+        let Some(cell) = free else { return all_distinct_by_order(table, key) };
         if cells[cell % CELLS] != 0 {
             return false;
         }
-        cells[cell % CELLS] = *key;
+        cells[cell % CELLS] = key_here;
     }
     true
 }
 
-fn all_distinct_by_order(keys: &[u32]) -> bool {
+fn all_distinct_by_order(table: &[Record], key: impl Fn(&Record) -> u32) -> bool {
     let mut sorted = [0; MOST_RECORDS];
-    let sorted = &mut sorted[..keys.len()];
-    sorted.copy_from_slice(keys);
+    let sorted = &mut sorted[..table.len()];
+    for (place, record) in sorted.iter_mut().zip(table) {
+        *place = key(record);
+    }
     sorted.sort_unstable();
-    sorted.windows(2).all(|pair| pair[0] != pair[1])
+    sorted.windows(2).all(|pair| pair[0] == 0 || pair[0] != pair[1])
 }

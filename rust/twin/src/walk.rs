@@ -37,12 +37,14 @@ impl Walk<'_> {
         let mut nearest_older = u64::MAX;
         for place in 0..children {
             let own = u64::from(far[place]);
-            if own <= nearest_older.saturating_add(2 * self.r) {
+            let next = usize::from(child(a, place));
+            let covered = u64::from(radius(&self.table[next])) + self.r;
+            if own <= nearest_older.saturating_add(2 * self.r) && own <= covered {
                 // Younger siblings rise, so the first that is so much nearer has the smallest timestamp.
                 let nearer = (place + 1..children).find(|c| own > u64::from(far[*c]) + 2 * self.r);
                 let below =
                     nearer.map_or(bound, |c| bound.min(u64::from(timestamp(&self.table[usize::from(child(a, c))]))));
-                self.visit(usize::from(child(a, place)), far[place], below);
+                self.visit(next, far[place], below);
             }
             nearest_older = nearest_older.min(own);
         }
