@@ -13,7 +13,7 @@ use Rattle.table.specs.Table.{recordsOf, at}
 use Rattle.table.specs.Records.{records-length, records-at}
 use Rattle.judge.specs.WellFormed.{WellFormed}
 use Rattle.survey.specs.Survey.{usedIn, rootOf, kindOf}
-use Rattle.survey.specs.Laws.{used-at-most as usedIn-most}
+use Rattle.survey.specs.Laws.{usedIn-most}
 use Rattle.tree.specs.Slots.{_∈_, either, ∈-decide}
 use Rattle.view.specs.Shaped.{Shaped}
 use Rattle.view.specs.Survey.{rootOf-is}

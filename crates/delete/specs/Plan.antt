@@ -19,7 +19,7 @@ use Rattle.table.specs.Record.{Record, recordOf, free, noSlot, children}
 use Rattle.table.specs.Table.{recordsOf, recordsIn, at}
 use Rattle.table.specs.Records.{records-length, records-at}
 use Rattle.survey.specs.Survey.{usedIn, rootOf, kindOf, largestTimestamp}
-use Rattle.survey.specs.Laws.{used-at-most as usedIn-most}
+use Rattle.survey.specs.Laws.{usedIn-most}
 use Rattle.tree.specs.Slots.{_∈_, ∈-decide, image-from, image-to}
 use Rattle.tree.specs.View.{Below, here}
 use Rattle.tree.specs.View.Shape.{below-younger}

@@ -15,7 +15,7 @@ use Rattle.table.specs.Record.{Record, Used, free, recordOf, noSlot, children}
 use Rattle.table.specs.Table.{recordsOf, at}
 use Rattle.table.specs.Laws.{Became, records-with}
 use Rattle.survey.specs.Survey.{usedIn, rootOf, largestTimestamp}
-use Rattle.survey.specs.Laws.{used-at-most as usedIn-most}
+use Rattle.survey.specs.Laws.{usedIn-most}
 use Rattle.tree.specs.Slots.{_∈_, ∈-decide}
 use Rattle.tree.specs.View.{Formed, distanceCount}
 use Rattle.tree.specs.Insert.{path, last, attach}

@@ -14,7 +14,7 @@ use Rattle.distance.specs.Kind.{apart}
 use Rattle.table.specs.Record.{Record, free}
 use Rattle.table.specs.Table.{at}
 use Rattle.survey.specs.Survey.{usedIn, rootOf, kindOf, largestTimestamp}
-use Rattle.survey.specs.Laws.{used-at-most as usedIn-most}
+use Rattle.survey.specs.Laws.{usedIn-most}
 use Rattle.tree.specs.Slots.{_∈_, ∈-decide}
 use Rattle.tree.specs.View.Count.{used-at-most}
 use Rattle.view.specs.Survey.{usedIn-usedCount, rootOf-is}

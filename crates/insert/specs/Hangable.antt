@@ -12,7 +12,7 @@ use Rattle.table.specs.Table.{recordsIn, recordsOf, at}
 use Rattle.table.specs.Records.{records-length}
 use Rattle.judge.specs.WellFormed.{WellFormed}
 use Rattle.survey.specs.Survey.{usedIn, rootOf}
-use Rattle.survey.specs.Laws.{used-at-most}
+use Rattle.survey.specs.Laws.{usedIn-most}
 use Rattle.tree.specs.Slots.{either}
 use Rattle.tree.specs.Insert.{path, last, attach}
 use Rattle.tree.specs.Insert.Path.{attach-∈}
@@ -127,7 +127,7 @@ module _ {l : List ℕ} {n : ℕ} (kind arity s : ℕ) (D : List Record) (waits 
         slot-stands = slot-stands;
         root-stands = omega (arith, rootOf-is n (at D) wf some .0, long, agree .long, records-length l);
         some = some;
-        deep = omega (arith, used-at-most n (at D), small);
+        deep = omega (arith, usedIn-most n (at D), small);
         room =
             let here : hostOf (recordsOf l) kind arity s root depth ≡ last root walk = ap (last root) walked in
             rw here (rw (agree .same (last root walk) host-stays) host-count);

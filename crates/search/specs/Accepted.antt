@@ -22,7 +22,7 @@ use Rattle.table.specs.Size.{whole}
 use Rattle.judge.specs.WellFormed.{WellFormed, wellFormed}
 use Rattle.judge.specs.Decided.{formed-decided}
 use Rattle.survey.specs.Survey.{usedIn, rootOf, kindOf}
-use Rattle.survey.specs.Laws.{used-at-most as usedIn-most}
+use Rattle.survey.specs.Laws.{usedIn-most}
 use Rattle.tree.specs.Slots.{either, keep}
 use Rattle.tree.specs.View.{View, Formed, Late, usedCount, distanceCount}
 use Rattle.tree.specs.View.Count.{used-at-most}

@@ -17,9 +17,9 @@ abbrev pub NoCard : (ℕ → Record) → ℕ → ℕ → Type 0
 NoCard R card a = (s : ℕ) → s < a → R s .card ≡ card → ⊥
 
 module _ (n : ℕ) (R : ℕ → Record) where
-  pub used-at-most : usedIn n R ≤ n
+  pub usedIn-most : usedIn n R ≤ n
   unfolding usedIn
-  used-at-most = count-most n (λ s. used (R s))
+  usedIn-most = count-most n (λ s. used (R s))
 
   -- ---- the slot of a card
 

@@ -252,13 +252,13 @@ zeroed-within l s n =
       outside = λ i out. zeroed-outside l (s * 64) n i (λ j p e. out j p (omega arith));
     }
 
-or-left : (a b : Bool) → a ≡ true → a || b ≡ true
-or-left true b e = refl
-or-left false b e = absurd (false≢true e)
+or-from-left : (a b : Bool) → a ≡ true → a || b ≡ true
+or-from-left true b e = refl
+or-from-left false b e = absurd (false≢true e)
 
-or-right : (a b : Bool) → b ≡ true → a || b ≡ true
-or-right true b e = refl
-or-right false b e = e
+or-from-right : (a b : Bool) → b ≡ true → a || b ≡ true
+or-from-right true b e = refl
+or-from-right false b e = e
 
 -- ---- each write
 
@@ -441,10 +441,10 @@ module _ (l : List ℕ) (s : ℕ) (fits : s * 64 + 64 ≤ length l) where
     where
       before : (p w : ℕ) → p + w ≤ 16 → Apart (16 + 2 * i) 2 p w
       before p w b =
-          or-right (leb (16 + 2 * i + 2) p) (leb (p + w) (16 + 2 * i)) (le-leb (p + w) (16 + 2 * i) (omega arith))
+          or-from-right (leb (16 + 2 * i + 2) p) (leb (p + w) (16 + 2 * i)) (le-leb (p + w) (16 + 2 * i) (omega arith))
 
       after : Apart (16 + 2 * i) 2 32 32
-      after = or-left (leb (16 + 2 * i + 2) 32) (leb 64 (16 + 2 * i)) (le-leb (16 + 2 * i + 2) 32 (omega arith))
+      after = or-from-left (leb (16 + 2 * i + 2) 32) (leb 64 (16 + 2 * i)) (le-leb (16 + 2 * i + 2) 32 (omega arith))
 
   pub put-signature :
       (vs : List ℕ) → length vs ≡ 16 → Fit vs → Became l s (withReadings (recordOf l s) vs) (putSignature l s vs)

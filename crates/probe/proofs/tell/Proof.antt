@@ -7,7 +7,7 @@ use Rattle.table.specs.Record.{recordOf}
 use Rattle.table.specs.Table.{recordsIn}
 use Rattle.table.specs.Size.{whole}
 use Rattle.survey.specs.Survey.{usedIn, lowestFree, rootOf, kindOf, largestTimestamp}
-use Rattle.survey.specs.Laws.{used-at-most, lowest-at-most, root-at-most}
+use Rattle.survey.specs.Laws.{usedIn-most, lowest-at-most, root-at-most}
 use Rattle.probe.specs.Probe.{judgeProbe}
 use Rattle.probe.specs.Tells.{judged-size, asked-yes, asked-no}
 use native.Mathlib.Omega.{arith}
@@ -35,7 +35,7 @@ survey-requires c κs =
 cast-t8 : tie.Need-cast-t8
 cast-t8 c =
     let l = c .before .before .before .before .before .args .t .now in
-    omega (arith, few (c .before), c .before .survey .ensures .used, used-at-most (recordsIn l) (recordOf l))
+    omega (arith, few (c .before), c .before .survey .ensures .used, usedIn-most (recordsIn l) (recordOf l))
 
 cast-t9 : tie.Need-cast-t9
 cast-t9 c =
