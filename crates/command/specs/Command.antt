@@ -7,8 +7,9 @@ use lib.Dec.{eqb}
 use lib.ListN.{getD, take, drop}
 use Rattle.places.specs.Choice.{pick}
 use Rattle.number.specs.Number.{numberAt}
-use Rattle.view.specs.Refusal.{ARGUMENT}
-use Rattle.insert.specs.Insert.{Outcome, insertOf}
+use Rattle.refusals.specs.Refusal.{ARGUMENT}
+use Rattle.insert.specs.Insert.{insertOf}
+use Rattle.refusals.specs.Outcome.{Outcome}
 use Rattle.delete.specs.Delete.{deleteOf}
 use Rattle.search.specs.Search.{searchOf}
 use Rattle.search.specs.Search.{Outcome as Listing}

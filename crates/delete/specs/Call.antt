@@ -19,8 +19,9 @@ use Rattle.judge.specs.Decided.{formed-decided}
 use Rattle.survey.specs.Survey.{slotOfCard}
 use Rattle.survey.specs.Laws.{slot-has-card}
 use Rattle.view.specs.Shaped.{Shaped, shaped-bytes}
-use Rattle.view.specs.Refusal.{SIZE, TABLE, ARGUMENT, ABSENT, CLOCK, firstOf, knownArity, done}
-use Rattle.insert.specs.Insert.{Outcome, refused}
+use Rattle.refusals.specs.Limits.{knownArity}
+use Rattle.refusals.specs.Refusal.{SIZE, TABLE, ARGUMENT, ABSENT, CLOCK, firstOf, done}
+use Rattle.refusals.specs.Outcome.{Outcome, refused}
 use Rattle.insert.specs.Refusals.{early, Early, early-passed}
 use Rattle.delete.specs.Delete.{clockWouldPass, refusalOf, deleteOf}
 use Rattle.delete.specs.Leaving.{Held}

@@ -14,10 +14,12 @@ use Rattle.judge.specs.WellFormed.{wellFormed}
 use Rattle.survey.specs.Survey.{usedIn, slotOfCard, largestTimestamp, kindOf}
 use Rattle.tree.specs.View.Under.{under}
 use Rattle.tree.specs.Remove.{except}
-use Rattle.view.specs.Refusal.{SIZE, TABLE, ARGUMENT, ABSENT, CLOCK, firstOf, knownArity, done}
+use Rattle.refusals.specs.Limits.{knownArity, lastTimestamp}
+use Rattle.refusals.specs.Refusal.{SIZE, TABLE, ARGUMENT, ABSENT, CLOCK, firstOf, done}
 use Rattle.view.specs.Place.{Placed, placed}
 use Rattle.view.specs.Stored.{brought}
-use Rattle.insert.specs.Insert.{Outcome, refused, changed, lastTimestamp}
+use Rattle.insert.specs.Insert.{changed}
+use Rattle.refusals.specs.Outcome.{Outcome, refused}
 
 -- ---- what leaves
 

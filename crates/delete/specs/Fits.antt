@@ -17,7 +17,7 @@ use Rattle.tree.specs.Slots.{either}
 use Rattle.view.specs.Survey.{kindOf-is}
 use Rattle.view.specs.Formed.{free-or-used, used-within}
 use Rattle.view.specs.Place.{Placed}
-use Rattle.insert.specs.Insert.{lastTimestamp}
+use Rattle.refusals.specs.Limits.{lastTimestamp}
 use Rattle.insert.specs.Fits.{fitting-free, placed-fits}
 use Rattle.delete.specs.Delete.{waiting, removed, oneBack, putBack, deleted, clockWouldPass}
 use Rattle.delete.specs.Leaving.{Held, removed-out}

@@ -20,7 +20,8 @@ use lib.ListN.{
 }
 use lib.Seq.{getD-set-same, getD-set-other, take-at, getD-append-add}
 use borrow.Author.Tests.{eq-eqb, ne-eqb}
-use Rattle.table.specs.Record.{Record, Used, free, noSlot, mostRecords, children}
+use Rattle.table.specs.Record.{Record, Used, free, noSlot, children}
+use Rattle.refusals.specs.Limits.{mostRecords}
 use Rattle.table.specs.Table.{at}
 use Rattle.judge.specs.WellFormed.{WellFormed, Filled}
 use Rattle.survey.specs.Survey.{usedIn, rootOf}
@@ -137,8 +138,7 @@ module _ (v : ℕ) (r : Record) (fits : r .count ≤ 8) (eight : length (r .slot
               card-from-1 = f .card-from-1;
               timestamp-from-1 = f .timestamp-from-1;
               count-to-8 = omega arith;
-              kind-from-1 = f .kind-from-1;
-              kind-to-2 = f .kind-to-2;
+              kind-known = f .kind-known;
               past-count = λ i p b.
                   let k = i - length left in
                   let e : i ≡ length left + k = omega (arith, rest-length) in

@@ -20,8 +20,8 @@ use Rattle.view.specs.Survey.{rootOf-is}
 use Rattle.view.specs.Formed.{free-or-used, used-within, formed-view}
 use Rattle.view.specs.Place.{Placed}
 use Rattle.view.specs.Stored.{brought}
-use Rattle.insert.specs.Insert.{lastTimestamp}
-use Rattle.insert.specs.Descent.{Walkable}
+use Rattle.refusals.specs.Limits.{lastTimestamp}
+use Rattle.table.specs.Stands.{Walkable}
 use Rattle.insert.specs.Hang.{Hangable}
 use Rattle.insert.specs.Hangable.{hangable}
 use Rattle.delete.specs.Delete.{freedAt, deleted}

@@ -28,12 +28,14 @@ use Rattle.tree.specs.Remove.Count.{removed-usedCount}
 use Rattle.view.specs.Children.{at-∈}
 use Rattle.view.specs.Survey.{usedIn-usedCount}
 use Rattle.view.specs.Formed.{used-within}
-use Rattle.view.specs.Refusal.{CLOCK, done}
+use Rattle.refusals.specs.Refusal.{CLOCK, done}
 use Rattle.view.specs.Place.{Placed}
-use Rattle.insert.specs.Descent.{Walkable}
-use Rattle.insert.specs.Hangable.{formed-walkable}
+use Rattle.table.specs.Stands.{Walkable}
+use Rattle.view.specs.Readable.{formed-walkable}
 use Rattle.judge.specs.WellFormed.{WellFormed}
-use Rattle.insert.specs.Insert.{Outcome, refused, changed, lastTimestamp}
+use Rattle.insert.specs.Insert.{changed}
+use Rattle.refusals.specs.Outcome.{Outcome, refused}
+use Rattle.refusals.specs.Limits.{lastTimestamp}
 use Rattle.table.specs.RoundTrip.{bytes-back}
 use Rattle.tree.specs.View.Count.{used-at-most}
 use Rattle.delete.specs.Delete.{leaving, ageKey, waiting, removed, unhung, deleted, clockWouldPass}

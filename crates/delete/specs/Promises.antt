@@ -15,11 +15,12 @@ use Rattle.table.specs.Records.{records-length}
 use Rattle.table.specs.RoundTrip.{row-fits, rows-back}
 use Rattle.judge.specs.WellFormed.{WellFormed}
 use Rattle.survey.specs.Survey.{slotOfCard}
-use Rattle.view.specs.Refusal.{done}
+use Rattle.refusals.specs.Refusal.{done}
 use Rattle.view.specs.Sound.{SoundTable}
 use Rattle.view.specs.Stored.{Stored}
 use Rattle.view.specs.Place.{Newcomer}
-use Rattle.insert.specs.Insert.{refused, changed}
+use Rattle.insert.specs.Insert.{changed}
+use Rattle.refusals.specs.Outcome.{refused}
 use Rattle.delete.specs.Delete.{deleted, refusalOf, deleteOf}
 use Rattle.delete.specs.Leaving.{Held}
 use Rattle.delete.specs.Returning.{deleted-returned, deleted-sound, deleted-stored, deleted-free}

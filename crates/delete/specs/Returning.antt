@@ -83,8 +83,7 @@ module _ {old : List Record} {v arity : ℕ} (held : Held old v) (to-8 : arity �
               held .well-formed .cards a s b within (z .0) was-used
               (sym (ap (λ (x : Newcomer). x .card) (z .1)) ∙ e) in
               omega (arith, r .waits s (first refl) .2, was-used, e, ap (λ (i : ℕ). at rows i .card) same);
-          kind-from-1 = held .well-formed .filled s within was-used .kind-from-1;
-          kind-to-2 = held .well-formed .filled s within was-used .kind-to-2;
+          kind-known = held .well-formed .filled s within was-used .kind-known;
           kind-same = λ a b u.
               let z = returning-used r a u in
               ap (λ (x : Newcomer). x .kind) (z .1) ∙ held .well-formed .kinds a s b within (z .0) was-used;

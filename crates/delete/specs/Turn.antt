@@ -21,7 +21,7 @@ use Rattle.view.specs.Survey.{usedIn-usedCount, rootOf-is}
 use Rattle.view.specs.Place.{Newcomer, Placed, placed}
 use Rattle.view.specs.Place.Keeps.{placed-settled, placed-alone}
 use Rattle.view.specs.Stored.{brought}
-use Rattle.insert.specs.Insert.{lastTimestamp}
+use Rattle.refusals.specs.Limits.{lastTimestamp}
 use Rattle.delete.specs.Delete.{leaving, freedAt, unhung, removed, waiting, oneBack, putBack, deleted}
 use Rattle.delete.specs.Leaving.{
   Held,

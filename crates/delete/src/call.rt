@@ -4,11 +4,13 @@ ghost use mathlib.Core.Bool.{_&&_};
 ghost use Prim.Native.Nat.{ℕ, _+_, _*_, _≤_, _<_};
 ghost use lib.Dec.{leb};
 ghost use lib.ListN.{length};
+ghost use Rattle.refusals.specs.Limits.{mostChildren};
 ghost use Rattle.table.specs.Record.{recordOf};
+ghost use Rattle.table.specs.Stands.{AreRecords};
 ghost use Rattle.table.specs.Table.{rightSize, recordsIn, recordsOf};
 ghost use Rattle.judge.specs.WellFormed.{wellFormed};
-ghost use Rattle.view.specs.Refusal.{knownArity};
-ghost use Rattle.insert.specs.Insert.{Outcome};
+ghost use Rattle.refusals.specs.Limits.{knownArity};
+ghost use Rattle.refusals.specs.Outcome.{Outcome};
 ghost use Rattle.insert.specs.Refusals.{early};
 ghost use Rattle.delete.specs.Delete.{deleteOf};
 ghost use Rattle.delete.specs.Leaving.{Held};
@@ -17,24 +19,21 @@ use super::back::put_back;
 use super::clock::last_staying;
 use super::gather::in_age_order;
 use super::remove::unhang;
-use insert::Changed;
+use refusals::ABSENT;
+use refusals::ARGUMENT;
+use refusals::CLOCK;
+use refusals::Changed;
+use refusals::DONE;
+use refusals::SIZE;
+use refusals::TABLE;
+use refusals::limit::CHILDREN;
+use refusals::limit::TIMESTAMP;
+use refusals::refused;
 use table::RECORD;
-use table::refusal::ABSENT;
-use table::refusal::ARGUMENT;
-use table::refusal::CLOCK;
-use table::refusal::DONE;
-use table::refusal::SIZE;
-use table::refusal::TABLE;
-
-// The largest arity.
-const MOST: u8 = 8;
-
-// The largest timestamp that four bytes hold.
-const LAST: u64 = 4294967295;
 
 // The card in slot v leaves a well-formed table of n records, unless a fresh timestamp would pass the last.
 fn delete_at(t: &mut [u8], v: usize, n: usize, arity: u8) -> Changed
-    requires { ⌜ Held (recordsOf (now t)) v × (n * 64 ≡ length (now t)) × (arity ≤ 8) ⌝ }
+    requires { ⌜ Held (recordsOf (now t)) v × AreRecords (now t) n × (arity ≤ mostChildren) ⌝ }
     ensures { λ r. ⌜ _≡_ {A = Outcome} (record { refusal = r .refusal; count = r .count; table = now (t .exit) })
         (outcomeAt (now (t .entry)) v arity) ⌝ }
 {
@@ -42,7 +41,7 @@ fn delete_at(t: &mut [u8], v: usize, n: usize, arity: u8) -> Changed
     let mut keys = [0u64; 1024];
     let m = in_age_order(t, v, seen.used, &mut keys);
     let last = last_staying(t, &keys[..m], n);
-    if LAST < last as u64 + m as u64 - 1 {
+    if (TIMESTAMP as u64) < last as u64 + m as u64 - 1 {
         return Changed {
             refusal: CLOCK,
             count: 0,
@@ -67,7 +66,7 @@ fn delete_at(t: &mut [u8], v: usize, n: usize, arity: u8) -> Changed
 fn right_arguments(card: u32, arity: u8) -> bool
     ensures { λ r. ⌜ r ≡ leb 1 card && knownArity arity ⌝ }
 {
-    (1 <= card) & ((1 <= arity) & (arity <= MOST))
+    (1 <= card) & ((1 <= arity) & (arity <= CHILDREN))
 }
 
 // The refusals by the table's size and form and the arguments; 0 if there is none.
@@ -85,15 +84,6 @@ fn early_refusal(t: &[u8], card: u32, arity: u8) -> u8
         DONE
     } else {
         ARGUMENT
-    }
-}
-
-fn refused(refusal: u8) -> Changed
-    ensures { λ r. ⌜ (r .refusal ≡ refusal) × (r .count ≡ 0) ⌝ }
-{
-    Changed {
-        refusal: refusal,
-        count: 0,
     }
 }
 

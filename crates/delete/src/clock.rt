@@ -2,9 +2,10 @@
 ghost use mathlib.Core.Path.{_≡_};
 ghost use Prim.Native.Nat.{ℕ, _+_, _*_, _%_, _≤_, _<_, max};
 ghost use lib.ListN.{length, getD, replicate};
+ghost use Rattle.refusals.specs.Limits.{mostRecords};
 ghost use Rattle.table.specs.Record.{recordOf};
+ghost use Rattle.table.specs.Stands.{Stands, StandTo};
 ghost use Rattle.survey.specs.Survey.{largestTimestamp};
-ghost use Rattle.insert.specs.Descent.{Stands};
 ghost use Rattle.delete.specs.Clock.{slotIn, marked, unmarked, timestampIn};
 
 // Marks the slots in these keys. At each turn those in the first i are.
@@ -42,7 +43,7 @@ fn staying_timestamp(t: &[u8], marks: &[u8], s: usize) -> u32
 
 // The largest timestamp of the records whose slots are not marked, 0 if there is none. At each turn it is that of the first s.
 pub(crate) fn largest_staying(t: &[u8], marks: &[u8], n: usize) -> u32
-    requires { ⌜ (n * 64 ≤ length (now t)) × (n ≤ length (now marks)) ⌝ }
+    requires { ⌜ StandTo (now t) n × (n ≤ length (now marks)) ⌝ }
     ensures { λ r. ⌜ r ≡ largestTimestamp n (unmarked (now (marks .entry)) (recordOf (now (t .entry)))) ⌝ }
 {
     let mut largest: u32 = 0;
@@ -56,7 +57,7 @@ pub(crate) fn largest_staying(t: &[u8], marks: &[u8], n: usize) -> u32
 
 // The largest timestamp of the n records whose slots are not in these keys, 0 if there is none.
 pub(crate) fn last_staying(t: &[u8], keys: &[u64], n: usize) -> u32
-    requires { ⌜ (n * 64 ≤ length (now t)) × (n ≤ 1024)
+    requires { ⌜ StandTo (now t) n × (n ≤ mostRecords)
         × ((i : ℕ) → i < length (now keys) → slotIn (getD (now keys) i 0) < 1024) ⌝ }
     ensures { λ r. ⌜ r
         ≡ largestTimestamp n (unmarked (marked (now (keys .entry)) (replicate 1024 0)) (recordOf (now (t .entry)))) ⌝ }

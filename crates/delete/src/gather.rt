@@ -4,8 +4,9 @@ ghost use mathlib.Core.List.{List, map};
 ghost use Prim.Native.Nat.{_+_, _*_, _≤_, _<_};
 ghost use lib.ListN.{length, set, take};
 ghost use Rattle.order.specs.Order.{inOrder};
-ghost use Rattle.table.specs.Record.{recordOf};
-ghost use Rattle.insert.specs.Descent.{Stands, Walkable};
+ghost use Rattle.refusals.specs.Limits.{mostRecords};
+ghost use Rattle.table.specs.Record.{recordOf, largestTable};
+ghost use Rattle.table.specs.Stands.{Stands, Walkable};
 ghost use Rattle.delete.specs.Gather.{Gathered, keyOf, slotsUnder, gathered};
 
 // A key is a timestamp and a slot: the timestamp counts in steps of this many.
@@ -13,7 +14,7 @@ const SLOTS: u64 = 65536;
 
 // Writes the key of slot s at place m.
 fn note_key(t: &[u8], s: usize, keys: &mut [u64], m: usize)
-    requires { ⌜ Stands (now t) s × (length (now t) ≤ 65536) × (m < length (now keys)) ⌝ }
+    requires { ⌜ Stands (now t) s × (length (now t) ≤ largestTable) × (m < length (now keys)) ⌝ }
     ensures { λ _. ⌜ now (keys .exit) ≡ set (now (keys .entry)) m (keyOf (recordOf (now (t .entry))) s) ⌝ }
 {
     keys[m] = table::timestamp_of(t, s) as u64 * SLOTS + s as u64;
@@ -30,7 +31,7 @@ fn child_count(t: &[u8], s: usize) -> usize
 // Writes the keys of slot a and of all below it from place m on, and returns the place after the last; `left` is the depth left.
 // At each turn the keys of a and of what stands at or below its first k children are written.
 fn gather(t: &[u8], a: usize, keys: &mut [u64], m: usize, left: usize) -> usize
-    requires { ⌜ Walkable (now t) × Stands (now t) a × (length (now t) ≤ 65536)
+    requires { ⌜ Walkable (now t) × Stands (now t) a × (length (now t) ≤ largestTable)
         × (m + length (slotsUnder (recordOf (now t)) left a) ≤ length (now keys)) ⌝ }
     ensures { λ r. ⌜ _≡_ {A = Gathered} (record { keys = now (keys .exit); at = r })
         (gathered (recordOf (now (t .entry))) (now (keys .entry)) m (slotsUnder (recordOf (now (t .entry))) left a)) ⌝ }
@@ -52,8 +53,8 @@ fn gather(t: &[u8], a: usize, keys: &mut [u64], m: usize, left: usize) -> usize
 
 // The keys of slot v and of all below it, in age order: v's own comes first, since all below it are younger. Returns how many.
 pub(crate) fn in_age_order(t: &[u8], v: usize, used: usize, keys: &mut [u64]) -> usize
-    requires { ⌜ Walkable (now t) × Stands (now t) v × (length (now t) ≤ 65536)
-        × (length (slotsUnder (recordOf (now t)) used v) ≤ length (now keys)) × (length (now keys) ≤ 1024) ⌝ }
+    requires { ⌜ Walkable (now t) × Stands (now t) v × (length (now t) ≤ largestTable)
+        × (length (slotsUnder (recordOf (now t)) used v) ≤ length (now keys)) × (length (now keys) ≤ mostRecords) ⌝ }
     ensures { λ r. ⌜ (r ≡ length (slotsUnder (recordOf (now (t .entry))) used v))
         × (take r (now (keys .exit)) ≡ inOrder (map (keyOf (recordOf (now (t .entry)))) (slotsUnder (recordOf (now (t .entry))) used v))) ⌝ }
 {

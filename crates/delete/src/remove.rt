@@ -2,10 +2,11 @@
 ghost use mathlib.Core.Path.{_≡_};
 ghost use Prim.Native.Nat.{_+_, _*_, _≤_, _<_};
 ghost use lib.ListN.{length, set};
+ghost use Rattle.refusals.specs.Limits.{mostChildren};
 ghost use Rattle.table.specs.Record.{recordOf, free};
+ghost use Rattle.table.specs.Stands.{Stands};
 ghost use Rattle.table.specs.Table.{recordsOf};
 ghost use Rattle.table.specs.Laws.{Became};
-ghost use Rattle.insert.specs.Descent.{Stands};
 ghost use Rattle.delete.specs.Delete.{disowning, unhung};
 ghost use Rattle.delete.specs.Leaving.{Held};
 ghost use Rattle.delete.specs.Closing.{withSlots, closing, Hosts};
@@ -14,7 +15,7 @@ use table::NO_SLOT;
 // The first n child slots of the record in slot p are closed up without v. At each turn those of the first k that stay
 // stand first, w of them, and the other slots are as they were.
 fn close_up(t: &mut [u8], p: usize, v: usize, n: usize)
-    requires { ⌜ Stands (now t) p × (n ≤ 8) ⌝ }
+    requires { ⌜ Stands (now t) p × (n ≤ mostChildren) ⌝ }
     ensures { λ _. ⌜ Became (now (t .entry)) p
         (withSlots (recordOf (now (t .entry)) p) (closing v (recordOf (now (t .entry)) p .slots) n)) (now (t .exit)) ⌝ }
 {

@@ -6,7 +6,7 @@ ghost use Rattle.distance.specs.Laws.{farthest};
 ghost use Rattle.distance.specs.Signature.{readingsAt, wordOf};
 ghost use Rattle.distance.specs.Readings.{gap, readingsApart};
 ghost use Rattle.distance.specs.Mask.{bitsApart, masksApart};
-ghost use Rattle.distance.specs.Kind.{apart};
+ghost use Rattle.distance.specs.Kind.{apart, knownKind};
 
 // Sixteen readings held together and passed as one. A fault mask is the same 32 bytes, taken as four words.
 pub struct Signature {
@@ -90,6 +90,13 @@ pub fn masks_apart(a: Signature, b: Signature) -> u32
         sum += bits_apart(word_of(a, k), word_of(b, k));
     }
     sum
+}
+
+// Whether there is such a kind.
+pub fn known_kind(kind: u8) -> bool
+    ensures { λ r. ⌜ r ≡ knownKind kind ⌝ }
+{
+    (kind == 1) | (kind == 2)
 }
 
 // The distance of the kind.

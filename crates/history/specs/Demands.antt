@@ -12,7 +12,7 @@ use Rattle.table.specs.Record.{recordOf}
 use Rattle.table.specs.Table.{recordsIn}
 use Rattle.judge.specs.WellFormed.{WellFormed}
 use Rattle.tree.specs.Slots.{_∈_, Distinct}
-use Rattle.view.specs.Refusal.{Test, firstOf, done}
+use Rattle.refusals.specs.Refusal.{Test, firstOf, done}
 use Rattle.view.specs.Place.{Newcomer}
 use Rattle.view.specs.Stored.{Stored}
 use Rattle.view.specs.Sound.{SoundTable}

@@ -9,9 +9,10 @@ use Rattle.places.specs.Choice.{pick}
 use Rattle.number.specs.Frame.{Bytes}
 use Rattle.distance.specs.Signature.{readingsAt}
 use Rattle.table.specs.Clear.{clearOf}
-use Rattle.view.specs.Refusal.{done}
+use Rattle.refusals.specs.Refusal.{done}
 use Rattle.view.specs.Place.{Newcomer}
-use Rattle.insert.specs.Insert.{Outcome, insertOf}
+use Rattle.insert.specs.Insert.{insertOf}
+use Rattle.refusals.specs.Outcome.{Outcome}
 use Rattle.delete.specs.Delete.{deleteOf}
 use Rattle.search.specs.Search.{searchOf, Outcome as Listing}
 use Rattle.soundness.specs.Soundness.{checkOf}

@@ -9,7 +9,8 @@ use native.Mathlib.Omega.{arith}
 use lib.ListN.{length, replicate, length-replicate}
 use Rattle.places.specs.Fill.{zeros-at}
 use Rattle.number.specs.Frame.{Bytes}
-use Rattle.table.specs.Record.{Record, Used, recordOf, mostRecords}
+use Rattle.table.specs.Record.{Record, Used, recordOf}
+use Rattle.refusals.specs.Limits.{mostRecords}
 use Rattle.table.specs.Table.{rightSize, recordsIn, recordsOf, at, bytesOf}
 use Rattle.table.specs.Same.{all-free}
 use Rattle.table.specs.Records.{records-at}

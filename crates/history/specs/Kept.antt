@@ -10,13 +10,14 @@ use native.Mathlib.Decide.{ℕ-discrete}
 use lib.ListN.{length}
 use borrow.Author.Tests.{eq-eqb, ne-eqb}
 use Rattle.number.specs.Frame.{Bytes}
-use Rattle.table.specs.Record.{recordOf, mostRecords}
+use Rattle.table.specs.Record.{recordOf}
+use Rattle.refusals.specs.Limits.{mostRecords}
 use Rattle.table.specs.Table.{rightSize, recordsIn, recordsOf, at}
 use Rattle.table.specs.Size.{rows-are}
 use Rattle.table.specs.Clear.{clear-done}
 use Rattle.survey.specs.Survey.{slotOfCard}
 use Rattle.tree.specs.Slots.{_∈_, Distinct, either, image-from, image-to}
-use Rattle.view.specs.Refusal.{done}
+use Rattle.refusals.specs.Refusal.{done}
 use Rattle.view.specs.Place.{Newcomer}
 use Rattle.view.specs.Stored.{Stored, brought-card}
 use Rattle.insert.specs.Insert.{inserted, insertOf}

@@ -13,8 +13,9 @@ use lib.Seq.{sets, ext-getD}
 use borrow.Author.Tests.{ne-eqb}
 use Rattle.places.specs.Choice.{pick}
 use Rattle.distance.specs.Signature.{readingsAt}
-use Rattle.distance.specs.Kind.{apart}
-use Rattle.table.specs.Record.{Record, free, recordOf, mostRecords}
+use Rattle.distance.specs.Kind.{apart, knownKind}
+use Rattle.table.specs.Record.{Record, free, recordOf}
+use Rattle.refusals.specs.Limits.{mostRecords, knownArity, lastTimestamp}
 use Rattle.table.specs.Table.{rightSize, recordsIn, recordsOf, at}
 use Rattle.table.specs.Put.{putRadius, withRadius}
 use Rattle.table.specs.Laws.{put-radius}
@@ -25,10 +26,11 @@ use Rattle.table.specs.Clear.{clear-done}
 use Rattle.judge.specs.WellFormed.{wellFormed}
 use Rattle.judge.specs.Decided.{formed-decided}
 use Rattle.survey.specs.Survey.{usedIn, slotOfCard, lowestFree, largestTimestamp}
-use Rattle.view.specs.Refusal.{TABLE, ARGUMENT, KIND, TWICE, ABSENT, FULL, CLOCK, SHORT, LOOSE, firstOf, knownKind}
-use Rattle.view.specs.Refusal.{knownArity, otherKind, done}
+use Rattle.refusals.specs.Refusal.{TABLE, ARGUMENT, KIND, TWICE, ABSENT, FULL, CLOCK, SHORT, LOOSE, firstOf, done}
+use Rattle.view.specs.Refusal.{otherKind}
 use Rattle.view.specs.Place.{Newcomer, Placed, placed}
-use Rattle.insert.specs.Insert.{changed, refused, inserted, rightArguments, lastTimestamp}
+use Rattle.insert.specs.Insert.{changed, inserted, rightArguments}
+use Rattle.refusals.specs.Outcome.{refused}
 use Rattle.insert.specs.Insert as Insert
 use Rattle.insert.specs.Accepted.{comer}
 use Rattle.insert.specs.Promises as Inserts

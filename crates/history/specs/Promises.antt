@@ -7,14 +7,17 @@ use mathlib.Core.Bool.{_&&_, not}
 use mathlib.Core.List.{List, [], _∷_}
 use lib.Dec.{leb, ltb, eqb}
 use lib.ListN.{length}
-use Rattle.table.specs.Record.{recordOf, mostRecords}
+use Rattle.table.specs.Record.{recordOf}
+use Rattle.refusals.specs.Limits.{mostRecords, knownArity, lastTimestamp}
 use Rattle.table.specs.Table.{rightSize, recordsIn, recordsOf}
 use Rattle.table.specs.Clear.{Cleared, clearOf}
 use Rattle.judge.specs.WellFormed.{wellFormed}
 use Rattle.survey.specs.Survey.{usedIn, slotOfCard, lowestFree, largestTimestamp}
-use Rattle.view.specs.Refusal.{SIZE, TABLE, ARGUMENT, KIND, TWICE, ABSENT, FULL, CLOCK, SHORT, LOOSE, firstOf}
-use Rattle.view.specs.Refusal.{knownKind, knownArity, otherKind, done}
-use Rattle.insert.specs.Insert.{Outcome, insertOf, rightArguments, lastTimestamp}
+use Rattle.refusals.specs.Refusal.{SIZE, TABLE, ARGUMENT, KIND, TWICE, ABSENT, FULL, CLOCK, SHORT, LOOSE, firstOf, done}
+use Rattle.view.specs.Refusal.{otherKind}
+use Rattle.distance.specs.Kind.{knownKind}
+use Rattle.insert.specs.Insert.{insertOf, rightArguments}
+use Rattle.refusals.specs.Outcome.{Outcome}
 use Rattle.insert.specs.Insert as Insert
 use Rattle.insert.specs.Promises as Inserts
 use Rattle.delete.specs.Delete.{deleteOf, clockWouldPass}

@@ -11,8 +11,9 @@ use Rattle.table.specs.Record.{recordOf}
 use Rattle.table.specs.Table.{rightSize, recordsIn, recordsOf, bytesOf}
 use Rattle.table.specs.Clear.{clearOf, clear-done, clear-refused}
 use Rattle.survey.specs.Survey.{slotOfCard}
-use Rattle.view.specs.Refusal.{SIZE, done, firstOf}
-use Rattle.insert.specs.Insert.{Outcome, changed, refused, inserted, insertOf}
+use Rattle.refusals.specs.Refusal.{SIZE, done, firstOf}
+use Rattle.insert.specs.Insert.{changed, inserted, insertOf}
+use Rattle.refusals.specs.Outcome.{Outcome, refused}
 use Rattle.insert.specs.Insert as Insert
 use Rattle.delete.specs.Delete.{deleted, deleteOf}
 use Rattle.delete.specs.Delete as Delete

@@ -11,14 +11,15 @@ use lib.ListN.{length, length-map}
 use lib.Seq.{length-sets}
 use borrow.Author.Tests.{eq-eqb, ne-eqb}
 use Rattle.distance.specs.Signature.{readingsAt}
-use Rattle.table.specs.Record.{Record, Used, recordOf, mostRecords}
+use Rattle.table.specs.Record.{Record, Used, recordOf}
+use Rattle.refusals.specs.Limits.{mostRecords}
 use Rattle.table.specs.Table.{recordsIn}
 use Rattle.judge.specs.Decided.{formed-decided}
 use Rattle.survey.specs.Survey.{usedIn, rootOf}
 use Rattle.tree.specs.Slots.{_∈_, Distinct, distinct-length, flatMap-from, image-from, image-to, distinct-image}
 use Rattle.tree.specs.View.{compared, Formed}
 use Rattle.view.specs.View.{viewOf}
-use Rattle.view.specs.Refusal.{done}
+use Rattle.refusals.specs.Refusal.{done}
 use Rattle.view.specs.Place.{Newcomer}
 use Rattle.view.specs.Shaped.{Shaped, shaped-bytes}
 use Rattle.view.specs.Formed.{formed-view, used-within}

@@ -18,9 +18,11 @@ use Rattle.table.specs.RoundTrip.{bytes-back}
 use Rattle.survey.specs.declared.Findings.{Findings}
 use Rattle.survey.specs.Survey.{slotOfCard}
 use Rattle.survey.specs.Pass.{Answers}
-use Rattle.view.specs.Refusal.{done, otherKind}
+use Rattle.view.specs.Refusal.{otherKind}
+use Rattle.refusals.specs.Refusal.{done}
 use Rattle.view.specs.Place.{Newcomer, placed}
-use Rattle.insert.specs.Insert.{Outcome, refused, changed, refusalOf, inserted, insertOf}
+use Rattle.insert.specs.Insert.{changed, refusalOf, inserted, insertOf}
+use Rattle.refusals.specs.Outcome.{Outcome, refused}
 use Rattle.insert.specs.Refusals.{lateBy, lateOf}
 use Rattle.insert.specs.Accepted.{comer, accepted-size, accepted-ready, accepted-clock}
 use Rattle.insert.specs.Newcomer.{newcomer}

@@ -23,7 +23,8 @@ use Rattle.view.specs.Children.{children-at}
 use Rattle.view.specs.Stored.{brought, brought-is}
 use Rattle.view.specs.Place.{Newcomer, Placed, fresh, raisedAlong, adopting, hangingFrom, hanging}
 use Rattle.view.specs.Place.Row.{Kept, Still, still-self, kept-adopting, along-still}
-use Rattle.insert.specs.Descent.{Stands, Descended, descent, descended}
+use Rattle.insert.specs.Descent.{Descended, descent, descended}
+use Rattle.table.specs.Stands.{Stands}
 use Rattle.insert.specs.Hang.{Hangable, hostOf}
 
 module _ {l : List ℕ} {kind arity s root depth : ℕ} (ok : Hangable l kind arity s root depth) where

@@ -27,9 +27,10 @@ use Rattle.view.specs.Place.{Newcomer, Placed, fresh, asRoot, hanging, placed}
 use Rattle.view.specs.Place.Agree.{Agree, Unlinked, hanging-agree, hanging-count}
 use Rattle.view.specs.Place.Settled.{not-new}
 use Rattle.insert.specs.Newcomer.{named}
-use Rattle.insert.specs.Descent.{Stands}
+use Rattle.table.specs.Stands.{Stands, walkable-same}
 use Rattle.insert.specs.Hang.{Hangable}
-use Rattle.insert.specs.Hangable.{formed-walkable, walkable-same, hangable}
+use Rattle.insert.specs.Hangable.{hangable}
+use Rattle.view.specs.Readable.{formed-walkable}
 use Rattle.insert.specs.Placeable.{Placeable}
 
 module _ {l : List ℕ} {f : Findings} {x : Newcomer} {arity : ℕ} (ok : Placeable l f x arity) where

@@ -28,8 +28,8 @@ use Rattle.view.specs.View.{viewOf}
 use Rattle.view.specs.Children.{children-length, children-slot}
 use Rattle.view.specs.Place.{raised}
 use Rattle.view.specs.Place.Row.{Still, still-self}
-use Rattle.insert.specs.Descent.{Stands, Walkable, Descended, descent, descended}
-use Rattle.insert.specs.Hangable.{walkable-same}
+use Rattle.insert.specs.Descent.{Descended, descent, descended}
+use Rattle.table.specs.Stands.{Stands, Walkable, walkable-same}
 use Rattle.insert.specs.Turn.{Near, near, scanned, nearestOf, scanned-more, scanned-end, scanned-nearest}
 use Rattle.insert.specs.Turn.{lifted, descended-turn}
 

@@ -21,12 +21,15 @@ use Rattle.judge.specs.Decided.{formed-decided}
 use Rattle.survey.specs.Survey.{usedIn, kindOf, slotOfCard, lowestFree, largestTimestamp}
 use Rattle.survey.specs.Laws.{no-card-before, lowest-no-card}
 use Rattle.tree.specs.Slots.{either}
-use Rattle.view.specs.Refusal.{done, knownKind, knownArity, otherKind}
+use Rattle.view.specs.Refusal.{otherKind}
+use Rattle.distance.specs.Kind.{knownKind}
+use Rattle.refusals.specs.Limits.{knownArity, lastTimestamp}
+use Rattle.refusals.specs.Refusal.{done}
 use Rattle.view.specs.Survey.{usedIn-seen, kindOf-is}
 use Rattle.view.specs.Shaped.{Shaped, shaped-bytes}
 use Rattle.view.specs.Place.{Newcomer}
 use Rattle.view.specs.Place.Settled.{Ready}
-use Rattle.insert.specs.Insert.{rightArguments, lastTimestamp, refusalOf}
+use Rattle.insert.specs.Insert.{rightArguments, refusalOf}
 use Rattle.insert.specs.Newcomer.{newcomer}
 use Rattle.insert.specs.Refusals.{earlyOf, refusal-early, refusal-late}
 use Rattle.insert.specs.Refusals.{Early, Late, early-passed, late-passed}
@@ -102,13 +105,8 @@ module _ (l : List ℕ) (card kind arity : ℕ) (s : List ℕ) (none : refusalOf
         leb-true arity 8 (and-right (leb 1 arity) (leb arity 8) both),
       )
 
-  known : (1 ≤ kind) × (kind ≤ 2)
-  known =
-      let one = and-left (knownKind kind) (eqb (length s) 32) (card-arity .1) in
-      either
-      (or-cases (eqb kind 1) (eqb kind 2) one)
-      (λ e. omega (arith, eqb-true kind 1 e))
-      (λ e. omega (arith, eqb-true kind 2 e))
+  known : knownKind kind ≡ true
+  known = and-left (knownKind kind) (eqb (length s) 32) (card-arity .1)
 
   pub accepted-signature : length s ≡ 32
   accepted-signature = eqb-true (length s) 32 (and-right (knownKind kind) (eqb (length s) 32) (card-arity .1))
@@ -148,8 +146,7 @@ module _ (l : List ℕ) (card kind arity : ℕ) (s : List ℕ) (none : refusalOf
         slot-free = ap (λ (r : Record). r .card) (same (lowestFree n R)) ∙ lowest-no-card n R accepted-slot;
         card-some = card-some;
         card-new = λ a h e. card-new a h (ap (λ (r : Record). r .card) (sym (same a)) ∙ e);
-        kind-from-1 = known .0;
-        kind-to-2 = known .1;
+        kind-known = known;
         kind-same = λ a h u. ap (λ (r : Record). r .kind) (same a) ∙ kind-same a h (rw (same a) at u);
         sixteen = readings-length s 0;
         arity-to-8 = accepted-arity .1;

@@ -10,18 +10,6 @@ use Rattle.tree.specs.Insert.{path, last}
 use Rattle.view.specs.View.{viewOf}
 use Rattle.view.specs.Place.{raisedAlong}
 
--- ---- a table that can be walked
-
--- slot s stands in the bytes l
-abbrev pub Stands : List ℕ → ℕ → Type 0
-Stands l s = s * 64 + 64 ≤ length l
-
--- what a walk asks of a table: whole records, each with at most eight children, and these stand in it
-pub record Walkable (l : List ℕ) : Type 0 where
-  pub whole : length l % 64 ≡ 0
-  pub few : (s : ℕ) → Stands l s → recordOf l s .count ≤ 8
-  pub stand : (s i : ℕ) → Stands l s → i < recordOf l s .count → Stands l (slot (recordOf l s) i)
-
 -- ---- what a walk leaves
 
 -- the records with the radii raised, the slot of the last record visited, and the distances worked out

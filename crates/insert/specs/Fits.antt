@@ -9,7 +9,7 @@ use native.Mathlib.Decide.{ℕ-discrete}
 use lib.ListN.{length, set, List·getD-eq-default}
 use lib.Seq.{getD-set-same, getD-set-other}
 use Rattle.distance.specs.Signature.{Fit}
-use Rattle.distance.specs.Kind.{apart, apart-distance}
+use Rattle.distance.specs.Kind.{apart, apart-distance, known-between}
 use Rattle.table.specs.Record.{Record, Used, free, slot, noSlot}
 use Rattle.table.specs.Table.{at}
 use Rattle.table.specs.Cases.{below-or}
@@ -23,7 +23,7 @@ use Rattle.view.specs.Place.{Newcomer, Placed, fresh, asRoot, placed}
 use Rattle.view.specs.Place.Settled.{Ready, Settled, settled-largest}
 use Rattle.view.specs.Place.Child.{visited}
 use Rattle.view.specs.Place.Keeps.{placed-root, placed-inserted, placed-settled}
-use Rattle.insert.specs.Insert.{lastTimestamp}
+use Rattle.refusals.specs.Limits.{lastTimestamp}
 
 pub fitting-free : Fitting free
 fitting-free = rw (past-free [] 0 (omega arith)) at (record-fits [] 0 (λ i. omega arith))
@@ -103,7 +103,7 @@ module _ {n arity s : ℕ} {x : Newcomer} {rows : List Record} (ready : Ready n 
           | no ne ↦ omega (arith, wf .hung a h u ne .parent-in, ready .small)
         ];
         count = omega (arith, filled .count-to-8);
-        kind = omega (arith, filled .kind-to-2);
+        kind = known-between (S a .kind) (filled .kind-known) .1;
         eight = new .shaped .eight a;
         slots = λ i. below-or
             i

@@ -9,7 +9,7 @@ use Rattle.tree.specs.Insert.{path, last}
 use Rattle.view.specs.View.{viewOf}
 use Rattle.view.specs.Place.{Placed, hanging}
 use Rattle.view.specs.Stored.{brought}
-use Rattle.insert.specs.Descent.{Stands, Walkable}
+use Rattle.table.specs.Stands.{Stands, Walkable}
 
 -- the record on which the newcomer in slot s hangs
 abbrev pub hostOf : List Record → ℕ → ℕ → ℕ → ℕ → ℕ → ℕ

@@ -24,41 +24,8 @@ use Rattle.view.specs.Survey.{usedIn-usedCount, rootOf-is}
 use Rattle.view.specs.Formed.{free-or-used, count-fits, formed-view}
 use Rattle.view.specs.Place.Agree.{Agree, Unlinked}
 use Rattle.view.specs.Place.Room.{attach-room}
-use Rattle.insert.specs.Descent.{Stands, Walkable}
+use Rattle.table.specs.Stands.{Stands, Walkable}
 use Rattle.insert.specs.Hang.{hostOf, Hangable}
-
--- ---- tables that can be walked
-
--- a well-formed table
-pub formed-walkable : (l : List ℕ) → length l % 64 ≡ 0 → WellFormed (recordsIn l) (recordOf l) → Walkable l
-formed-walkable l whole wf =
-    let shape = shaped-bytes (recordsIn l) l (omega arith) in
-    record {
-      whole = whole;
-      few = λ s h. either
-          (free-or-used shape (wf .free-if-no-card) s)
-          (λ e. omega (arith, ap (λ (r : Record). r .count) e))
-          (λ z. wf .filled s (z .0) (z .1) .count-to-8);
-      stand = λ s i h b. either
-          (free-or-used shape (wf .free-if-no-card) s)
-          (λ e. absurd (omega (arith, ap (λ (r : Record). r .count) e)))
-          (λ z. omega (arith, wf .owned s i (z .0) (z .1) b .child-in));
-    }
-
--- a table of the same child counts and child slots
-pub walkable-same :
-    {l m : List ℕ}
-    → length m ≡ length l
-    → ((s : ℕ) → recordOf m s .count ≡ recordOf l s .count)
-    → ((s : ℕ) → recordOf m s .slots ≡ recordOf l s .slots)
-    → Walkable l
-    → Walkable m
-walkable-same long counts slots w =
-    record {
-      whole = ap (λ (k : ℕ). k % 64) long ∙ w .whole;
-      few = λ s h. rw (counts s) (w .few s (rw long at h));
-      stand = λ s i h p. rw (slots s, long) (w .stand s i (rw long at h) (rw (counts s) at p));
-    }
 
 -- ---- where a newcomer can be hung
 

@@ -6,32 +6,20 @@ use lib.Dec.{eqb, leb, ltb}
 use lib.ListN.{length}
 use Rattle.places.specs.Choice.{pick}
 use Rattle.distance.specs.Signature.{readingsAt}
-use Rattle.distance.specs.Kind.{apart}
+use Rattle.distance.specs.Kind.{apart, knownKind}
 use Rattle.table.specs.Record.{recordOf}
 use Rattle.table.specs.Table.{rightSize, recordsIn, recordsOf, bytesOf}
 use Rattle.judge.specs.WellFormed.{wellFormed}
 use Rattle.survey.specs.Survey.{slotOfCard, lowestFree, largestTimestamp}
-use Rattle.view.specs.Refusal.{SIZE, TABLE, ARGUMENT, KIND, TWICE, FULL, CLOCK, done}
-use Rattle.view.specs.Refusal.{firstOf, knownKind, knownArity, otherKind}
+use Rattle.refusals.specs.Refusal.{SIZE, TABLE, ARGUMENT, KIND, TWICE, FULL, CLOCK, done, firstOf}
+use Rattle.view.specs.Refusal.{otherKind}
+use Rattle.refusals.specs.Limits.{lastTimestamp, knownArity}
+use Rattle.refusals.specs.Outcome.{Outcome, refused}
 use Rattle.view.specs.Place.{Placed, placed}
-
--- what a call that changes the table returns, and the table as it leaves it
-pub record Outcome : Type 0 where
-  pub refusal : ℕ
-  pub count : ℕ
-  pub table : List ℕ
-
--- "A refusal returns zero counts and touches nothing lent"
-unfoldable pub refused : ℕ → List ℕ → Outcome
-refused k l = record { refusal = k; count = 0; table = l }
 
 -- done: the records and the distance count are as the rule has them
 unfoldable pub changed : Placed → Outcome
 changed p = record { refusal = done; count = p .count; table = bytesOf (p .rows) }
-
--- the largest timestamp that four bytes hold
-abbrev pub lastTimestamp : ℕ
-lastTimestamp = 4294967295
 
 -- "card 0; arity not 1 to 8; kind not 1 or 2, or signature not 32 bytes" is refused
 unfoldable pub rightArguments : ℕ → ℕ → ℕ → List ℕ → Bool

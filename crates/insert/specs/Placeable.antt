@@ -11,7 +11,7 @@ use Rattle.survey.specs.declared.Findings.{Findings}
 use Rattle.survey.specs.Pass.{Answers}
 use Rattle.view.specs.Place.{Newcomer}
 use Rattle.view.specs.Place.Settled.{Ready}
-use Rattle.insert.specs.Insert.{lastTimestamp}
+use Rattle.refusals.specs.Limits.{lastTimestamp}
 
 -- the newcomer x may be placed in the table l, of which f are the survey's findings
 pub record Placeable (l : List ℕ) (f : Findings) (x : Newcomer) (arity : ℕ) : Type 0 where

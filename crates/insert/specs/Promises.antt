@@ -20,13 +20,15 @@ use Rattle.table.specs.Size.{rows-are}
 use Rattle.table.specs.RoundTrip.{row-fits, rows-back}
 use Rattle.judge.specs.WellFormed.{WellFormed}
 use Rattle.survey.specs.Survey.{lowestFree, largestTimestamp}
-use Rattle.view.specs.Refusal.{done}
+use Rattle.refusals.specs.Refusal.{done}
 use Rattle.view.specs.Sound.{SoundTable}
 use Rattle.view.specs.Stored.{Stored, settled-stored}
 use Rattle.view.specs.Place.{Newcomer, placed}
 use Rattle.view.specs.Place.Settled.{Ready}
 use Rattle.view.specs.Place.Keeps.{placed-length, placed-settled, placed-sound-table}
-use Rattle.insert.specs.Insert.{Outcome, refused, changed, lastTimestamp, refusalOf, inserted, insertOf}
+use Rattle.insert.specs.Insert.{changed, refusalOf, inserted, insertOf}
+use Rattle.refusals.specs.Outcome.{Outcome, refused}
+use Rattle.refusals.specs.Limits.{lastTimestamp}
 use Rattle.insert.specs.Accepted.{comer, accepted-size, accepted-ready, accepted-clock}
 use Rattle.insert.specs.Fits.{placed-fits}
 

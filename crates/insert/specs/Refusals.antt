@@ -13,8 +13,10 @@ use Rattle.table.specs.Table.{rightSize, recordsIn}
 use Rattle.judge.specs.WellFormed.{wellFormed}
 use Rattle.survey.specs.declared.Findings.{Findings}
 use Rattle.survey.specs.Survey.{slotOfCard, lowestFree, largestTimestamp}
-use Rattle.view.specs.Refusal.{SIZE, TABLE, ARGUMENT, KIND, TWICE, FULL, CLOCK, firstOf, otherKind, done}
-use Rattle.insert.specs.Insert.{rightArguments, lastTimestamp, refusalOf}
+use Rattle.view.specs.Refusal.{otherKind}
+use Rattle.refusals.specs.Refusal.{SIZE, TABLE, ARGUMENT, KIND, TWICE, FULL, CLOCK, firstOf, done}
+use Rattle.insert.specs.Insert.{rightArguments, refusalOf}
+use Rattle.refusals.specs.Limits.{lastTimestamp}
 
 -- by the table's size and form and the call's arguments
 unfoldable pub early : Bool → Bool → Bool → ℕ

@@ -1,37 +1,29 @@
 // The call: its refusals in their order, and then the placing.
 ghost use mathlib.Core.Path.{_≡_};
-ghost use Rattle.insert.specs.Insert.{Outcome, rightArguments, insertOf};
+ghost use Rattle.insert.specs.Insert.{rightArguments, insertOf};
+ghost use Rattle.refusals.specs.Outcome.{Outcome};
 ghost use Rattle.insert.specs.Refusals.{earlyOf, lateBy};
 use super::place::place;
+use refusals::ARGUMENT;
+use refusals::CLOCK;
+use refusals::Changed;
+use refusals::DONE;
+use refusals::FULL;
+use refusals::KIND;
+use refusals::SIZE;
+use refusals::TABLE;
+use refusals::TWICE;
+use refusals::limit::CHILDREN;
+use refusals::limit::SIGNATURE;
+use refusals::limit::TIMESTAMP;
+use refusals::refused;
 use survey::Findings;
 use table::RECORD;
-use table::refusal::ARGUMENT;
-use table::refusal::CLOCK;
-use table::refusal::DONE;
-use table::refusal::FULL;
-use table::refusal::KIND;
-use table::refusal::SIZE;
-use table::refusal::TABLE;
-use table::refusal::TWICE;
-
-// Bytes of a signature.
-const SIGNATURE: usize = 32;
-
-// The largest arity, and the largest timestamp.
-const MOST: u8 = 8;
-
-const LAST: u32 = 4294967295;
-
-// What a call that changes the table returns: the refusal, 0 if none, and the distances worked out.
-pub struct Changed {
-    pub refusal: u8,
-    pub count: u32,
-}
 
 fn right_arguments(card: u32, kind: u8, arity: u8, signature: &[u8]) -> bool
     ensures { λ r. ⌜ r ≡ rightArguments card kind arity (now (signature .entry)) ⌝ }
 {
-    let card_and_arity = (1 <= card) & ((1 <= arity) & (arity <= MOST));
+    let card_and_arity = (1 <= card) & ((1 <= arity) & (arity <= CHILDREN));
     let known = (kind == 1) | (kind == 2);
     card_and_arity & (known & (signature.len() == SIGNATURE))
 }
@@ -60,7 +52,7 @@ fn late_refusal(found: Findings, n: usize, kind: u8, slot: usize) -> u8
     let other = (0 < found.used) & (found.kind != kind);
     let twice = slot < n;
     let full = n <= found.lowest;
-    let spent = LAST <= found.largest;
+    let spent = TIMESTAMP <= found.largest;
     if other {
         return KIND;
     }
@@ -71,15 +63,6 @@ fn late_refusal(found: Findings, n: usize, kind: u8, slot: usize) -> u8
         return FULL;
     }
     if spent { CLOCK } else { DONE }
-}
-
-fn refused(refusal: u8) -> Changed
-    ensures { λ r. ⌜ (r .refusal ≡ refusal) × (r .count ≡ 0) ⌝ }
-{
-    Changed {
-        refusal: refusal,
-        count: 0,
-    }
 }
 
 // Inserts the card with its kind and its signature of 32 bytes. A refused call leaves the table as it was.

@@ -1,10 +1,12 @@
 // The walk of a newcomer (001, Algorithm 1): from the root to the record that it is to hang on.
 ghost use mathlib.Core.Path.{_≡_};
 ghost use Prim.Native.Nat.{_+_, _*_, _≤_};
+ghost use Rattle.refusals.specs.Limits.{mostRecords};
+ghost use Rattle.table.specs.Stands.{Stands, Walkable};
 ghost use Rattle.distance.specs.Signature.{Fit};
 ghost use Rattle.distance.specs.Kind.{apart};
 ghost use Rattle.table.specs.Table.{recordsOf};
-ghost use Rattle.insert.specs.Descent.{Stands, Walkable, descent, descended};
+ghost use Rattle.insert.specs.Descent.{descent, descended};
 use super::record::raise;
 use distance::Signature;
 
@@ -27,7 +29,7 @@ pub(crate) fn descend(
     root: usize,
     depth: usize,
 ) -> Attach
-    requires { ⌜ Walkable (now t) × Stands (now t) root × Fit (x .readings) × (1 ≤ depth) × (depth ≤ 1024) ⌝ }
+    requires { ⌜ Walkable (now t) × Stands (now t) root × Fit (x .readings) × (1 ≤ depth) × (depth ≤ mostRecords) ⌝ }
     ensures { λ r. ⌜ (descent (recordsOf (now (t .exit))) (r .slot) (r .count)
         ≡ descended (apart kind) (x .readings) arity (recordsOf (now (t .entry))) depth root 1)
         × (r .count ≤ 1 + 8 * depth) ⌝ }

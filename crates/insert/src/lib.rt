@@ -4,7 +4,6 @@ mod descend;
 mod place;
 mod record;
 
-pub use call::Changed;
 pub use call::insert;
 pub use place::hang;
 pub use record::seat;

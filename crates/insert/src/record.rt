@@ -3,7 +3,9 @@ ghost use mathlib.Core.Path.{_≡_};
 ghost use Prim.Native.Nat.{_+_, _*_, _≤_, _<_};
 ghost use lib.ListN.{length};
 ghost use Rattle.distance.specs.Signature.{Fit};
+ghost use Rattle.refusals.specs.Limits.{mostChildren};
 ghost use Rattle.table.specs.Record.{recordOf};
+ghost use Rattle.table.specs.Stands.{Stands};
 ghost use Rattle.table.specs.Laws.{Became};
 ghost use Rattle.view.specs.Place.{raised, adopting, fresh};
 ghost use Rattle.view.specs.Stored.{brought};
@@ -13,7 +15,7 @@ use table::NO_SLOT;
 
 // 1. The covering radius of the record in slot a becomes the larger of itself and the distance.
 pub(crate) fn raise(t: &mut [u8], a: usize, away: u32)
-    requires { ⌜ a * 64 + 64 ≤ length (now t) ⌝ }
+    requires { ⌜ Stands (now t) a ⌝ }
     ensures { λ _. ⌜ Became (now (t .entry)) a (raised away (recordOf (now (t .entry)) a)) (now (t .exit)) ⌝ }
 {
     if table::radius_of(t, a) < away {
@@ -23,7 +25,7 @@ pub(crate) fn raise(t: &mut [u8], a: usize, away: u32)
 
 // 3. Slot s becomes the last child of the record in slot a, which has room for it.
 pub(crate) fn adopt(t: &mut [u8], a: usize, s: usize)
-    requires { ⌜ (a * 64 + 64 ≤ length (now t)) × (s < 65536) × (recordOf (now t) a .count < 8) ⌝ }
+    requires { ⌜ Stands (now t) a × (s < 65536) × (recordOf (now t) a .count < mostChildren) ⌝ }
     ensures { λ _. ⌜ Became (now (t .entry)) a (adopting s (recordOf (now (t .entry)) a)) (now (t .exit)) ⌝ }
 {
     let n = table::count_of(t, a);
@@ -33,7 +35,7 @@ pub(crate) fn adopt(t: &mut [u8], a: usize, s: usize)
 
 // Card, kind and signature of the newcomer are written into slot s.
 pub(crate) fn name(t: &mut [u8], s: usize, card: u32, kind: u8, signature: Signature)
-    requires { ⌜ (s * 64 + 64 ≤ length (now t)) × (length (signature .readings) ≡ 16) × Fit (signature .readings) ⌝ }
+    requires { ⌜ Stands (now t) s × (length (signature .readings) ≡ 16) × Fit (signature .readings) ⌝ }
     ensures { λ _. ⌜ Became (now (t .entry)) s
         (named card kind (signature .readings) (recordOf (now (t .entry)) s)) (now (t .exit)) ⌝ }
 {
@@ -44,7 +46,7 @@ pub(crate) fn name(t: &mut [u8], s: usize, card: u32, kind: u8, signature: Signa
 
 // The eight child slots of the record in slot s become 65,535. At each turn the first i of them are.
 fn clear_slots(t: &mut [u8], s: usize)
-    requires { ⌜ s * 64 + 64 ≤ length (now t) ⌝ }
+    requires { ⌜ Stands (now t) s ⌝ }
     ensures { λ _. ⌜ Became (now (t .entry)) s (slotless (recordOf (now (t .entry)) s)) (now (t .exit)) ⌝ }
 {
     for i in 0..8usize {
@@ -54,7 +56,7 @@ fn clear_slots(t: &mut [u8], s: usize)
 
 // "with radius 0 and no child": the newcomer whose card, kind and signature stand in slot s gets timestamp and parent.
 pub fn seat(t: &mut [u8], s: usize, timestamp: u32, parent: u16)
-    requires { ⌜ s * 64 + 64 ≤ length (now t) ⌝ }
+    requires { ⌜ Stands (now t) s ⌝ }
     ensures { λ _. ⌜ Became (now (t .entry)) s
         (fresh (brought (recordOf (now (t .entry)) s)) timestamp parent) (now (t .exit)) ⌝ }
 {

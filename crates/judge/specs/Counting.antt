@@ -26,6 +26,7 @@ use Rattle.places.specs.Decides.{
   decides-same,
 }
 use Rattle.distinct.specs.Distinct.{Distinct, distinctTo, distinct-reads, reads-distinct}
+use Rattle.distance.specs.Kind.{known-between}
 use Rattle.table.specs.Record.{Record, Used, used, free, slot, noSlot}
 use Rattle.judge.specs.WellFormed.{Filled, Hung, Owned, WellFormed, ifAny, oneRoot, standing, wellFormed}
 use Rattle.judge.specs.Decided.{Roots, used-decided, free-decided, filled-decided, formed-decided, roots-decided}
@@ -186,7 +187,7 @@ module _ (n : ℕ) (R : ℕ → Record) (small : n ≤ noSlot) where
   counted-formed c =
       let root : Roots n R = roots-decided n R .shows (eq-eqb (rootCount n R) (ifAny (usedCount n R)) (c .one-root)) in
       let kind : (a : ℕ) → a < n → Used (R a) → kindBefore R n ≡ R a .kind =
-      kinds-before R n (λ a b u. c .filled a b u .kind-from-1) (c .same-kind) in
+      kinds-before R n (λ a b u. known-between (R a .kind) (c .filled a b u .kind-known) .0) (c .same-kind) in
       record {
         free-if-no-card = c .free-if-no-card;
         filled = c .filled;

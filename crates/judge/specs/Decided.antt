@@ -14,6 +14,7 @@ use Rattle.places.specs.Test.{countTo}
 use Rattle.places.specs.Count.{none-counted, some-counted, one-counted, counted-one, seen-counted}
 use Rattle.places.specs.Decides.{
   Decides,
+  true-decided,
   le-decided,
   lt-decided,
   eq-decided,
@@ -25,6 +26,7 @@ use Rattle.places.specs.Decides.{
   reworded,
   decides-same,
 }
+use Rattle.distance.specs.Kind.{knownKind}
 use Rattle.table.specs.Record.{Record, Used, used, free, slot, noSlot}
 use Rattle.judge.specs.WellFormed.{
   Filled,
@@ -110,18 +112,17 @@ filled-decided r =
       card-from-1 = h .0 .0 .0;
       timestamp-from-1 = h .0 .0 .1;
       count-to-8 = h .0 .1;
-      kind-from-1 = h .1 .0 .0;
-      kind-to-2 = h .1 .0 .1;
+      kind-known = h .1 .0;
       past-count = λ i p b. h .1 .1 i b p;
     })
     (λ f. (
       ((f .card-from-1, f .timestamp-from-1), f .count-to-8),
-      ((f .kind-from-1, f .kind-to-2), λ i b p. f .past-count i p b),
+      (f .kind-known, λ i b p. f .past-count i p b),
     ))
     (both
     (both (both (le-decided 1 (r .card)) (le-decided 1 (r .timestamp))) (le-decided (r .count) 8))
     (both
-    (both (le-decided 1 (r .kind)) (le-decided (r .kind) 2))
+    (true-decided (knownKind (r .kind)))
     (at-each 8 (λ i. if-so (le-decided (r .count) i) (eq-decided (slot r i) noSlot)))))
 
 -- ---- each clause

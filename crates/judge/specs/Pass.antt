@@ -9,6 +9,8 @@ use lib.Dec.{leb, ltb, eqb}
 use borrow.Author.Tests.{ne-eqb, eqb-false, ltb-false, le-leb, le-ltb, lt-ltb, not-true, not-false}
 use Rattle.places.specs.Choice.{and-left, or-left, or-right, not-and, le-not-lt}
 use Rattle.places.specs.Test.{allTo, all-fails, all-none, all-more}
+use Rattle.distance.specs.Kind.{knownKind}
+use Rattle.refusals.specs.Limits.{mostChildren}
 use Rattle.table.specs.Record.{Record, Used, slot}
 use Rattle.judge.specs.WellFormed.{pastCount, isFilled}
 use Rattle.judge.specs.Decided.{filled-decided}
@@ -94,25 +96,21 @@ module _ (n : ℕ) (R : ℕ → Record) (a : ℕ) where
 
 -- the code's test of a used record, its child slots aside
 abbrev pub unfilled : ℕ → ℕ → ℕ → Bool
-unfilled time kind count = ((eqb time 0 || eqb kind 0) || ltb 2 kind) || ltb 8 count
+unfilled time kind count = (eqb time 0 || not (knownKind kind)) || ltb mostChildren count
 
 pub record Plain (time kind count : ℕ) : Type 0 where
   pub timed : 1 ≤ time
-  pub kind-low : 1 ≤ kind
-  pub kind-high : kind ≤ 2
+  pub kind-known : knownKind kind ≡ true
   pub few : count ≤ 8
 
 pub plain : (time kind count : ℕ) → unfilled time kind count ≡ false → Plain time kind count
 plain time kind count t =
-    let three = or-left ((eqb time 0 || eqb kind 0) || ltb 2 kind) (ltb 8 count) t in
-    let two = or-left (eqb time 0 || eqb kind 0) (ltb 2 kind) three in
-    let no-time : ¬ (time ≡ 0) = eqb-false time 0 (or-left (eqb time 0) (eqb kind 0) two) in
-    let no-kind : ¬ (kind ≡ 0) = eqb-false kind 0 (or-right (eqb time 0) (eqb kind 0) two) in
+    let two = or-left (eqb time 0 || not (knownKind kind)) (ltb mostChildren count) t in
+    let no-time : ¬ (time ≡ 0) = eqb-false time 0 (or-left (eqb time 0) (not (knownKind kind)) two) in
     record {
       timed = omega arith;
-      kind-low = omega arith;
-      kind-high = ltb-false 2 kind (or-right (eqb time 0 || eqb kind 0) (ltb 2 kind) three);
-      few = ltb-false 8 count (or-right ((eqb time 0 || eqb kind 0) || ltb 2 kind) (ltb 8 count) t);
+      kind-known = not-false (knownKind kind) (or-right (eqb time 0) (not (knownKind kind)) two);
+      few = ltb-false mostChildren count (or-right (eqb time 0 || not (knownKind kind)) (ltb mostChildren count) t);
     }
 
 module _ (r : Record) (time kind count : ℕ)
@@ -127,10 +125,9 @@ module _ (r : Record) (time kind count : ℕ)
       go true e =
           let f = filled-decided r .shows (and-left (isFilled r) linked e) in
           let timed : eqb time 0 ≡ false = ne-eqb time 0 (λ z. omega (arith, f .timestamp-from-1)) in
-          let low : eqb kind 0 ≡ false = ne-eqb kind 0 (λ z. omega (arith, f .kind-from-1)) in
-          let high : ltb 2 kind ≡ false = le-ltb 2 kind (omega (arith, f .kind-to-2)) in
-          let few : ltb 8 count ≡ false = le-ltb 8 count (omega (arith, f .count-to-8)) in
-          sym (λ i. ((timed i || low i) || high i) || few i) ∙ t
+          let known : not (knownKind kind) ≡ false = ap (λ (k : ℕ). not (knownKind k)) its-kind ∙ ap not (f .kind-known) in
+          let few : ltb mostChildren count ≡ false = le-ltb mostChildren count (omega (arith, f .count-to-8)) in
+          sym (λ i. (timed i || known i) || few i) ∙ t
       go false e = refl
 
   pub record-yes :
@@ -145,6 +142,5 @@ module _ (r : Record) (time kind count : ℕ)
       let carded : leb 1 (r .card) ≡ true = le-leb 1 (r .card) u in
       let timed : leb 1 (r .timestamp) ≡ true = le-leb 1 (r .timestamp) (omega arith) in
       let few : leb (r .count) 8 ≡ true = le-leb (r .count) 8 (omega arith) in
-      let low : leb 1 (r .kind) ≡ true = le-leb 1 (r .kind) (omega arith) in
-      let high : leb (r .kind) 2 ≡ true = le-leb (r .kind) 2 (omega arith) in
-      sym (λ i. (((carded i && timed i) && few i) && ((low i && high i) && sym past i)) && sym e i)
+      let known : knownKind (r .kind) ≡ true = ap knownKind (sym its-kind) ∙ h .kind-known in
+      sym (λ i. (((carded i && timed i) && few i) && (known i && sym past i)) && sym e i)

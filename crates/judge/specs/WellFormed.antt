@@ -2,12 +2,13 @@
 -- A table is n records, of which R s stands in slot s.
 use Prim.Native.Nat.{ℕ, _+_, _≤_, _<_}
 use mathlib.Core.Path.{_≡_}
-use mathlib.Core.Bool.{Bool, _&&_, not}
+use mathlib.Core.Bool.{Bool, true, _&&_, not}
 use mathlib.Core.List.{List}
 use lib.Dec.{leb, ltb, eqb}
 use lib.ListN.{getD, length}
 use Rattle.places.specs.Choice.{pick, implies}
 use Rattle.places.specs.Test.{allTo, countTo}
+use Rattle.distance.specs.Kind.{knownKind}
 use Rattle.table.specs.Record.{Record, Used, used, free, slot, noSlot}
 
 -- ---- the statements
@@ -18,8 +19,7 @@ pub record Filled (r : Record) : Type 0 where
   pub card-from-1 : 1 ≤ r .card
   pub timestamp-from-1 : 1 ≤ r .timestamp
   pub count-to-8 : r .count ≤ 8
-  pub kind-from-1 : 1 ≤ r .kind
-  pub kind-to-2 : r .kind ≤ 2
+  pub kind-known : knownKind (r .kind) ≡ true
   pub past-count : (i : ℕ) → r .count ≤ i → i < 8 → slot r i ≡ noSlot
 
 -- how often s stands in the child slots of r
@@ -90,7 +90,7 @@ pastCount r = allTo 8 (isPast r)
 unfoldable pub isFilled : Record → Bool
 isFilled r =
     ((leb 1 (r .card) && leb 1 (r .timestamp)) && leb (r .count) 8)
-    && ((leb 1 (r .kind) && leb (r .kind) 2) && pastCount r)
+    && (knownKind (r .kind) && pastCount r)
 
 -- a used record without parent
 abbrev pub isRoot : (ℕ → Record) → ℕ → Bool

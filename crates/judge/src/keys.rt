@@ -2,14 +2,14 @@
 ghost use mathlib.Core.Path.{_≡_};
 ghost use Prim.Native.Nat.{_+_, _*_, _≤_};
 ghost use lib.ListN.{length};
+ghost use Rattle.refusals.specs.Limits.{mostRecords};
 ghost use Rattle.table.specs.Record.{recordOf};
+ghost use Rattle.table.specs.Stands.{Stands, StandTo};
 ghost use Rattle.distinct.specs.Distinct.{distinctTo};
 ghost use Rattle.judge.specs.Key.{keyOf};
 use distinct::CELLS;
 use distinct::Seat;
-
-// The most records a table has.
-const RECORDS: usize = 1024;
+use refusals::limit::RECORDS;
 
 // Which field of a record is its key.
 pub enum Key {
@@ -18,7 +18,7 @@ pub enum Key {
 }
 
 fn key_of(t: &[u8], s: usize, key: Key) -> u32
-    requires { ⌜ s * 64 + 64 ≤ length (now t) ⌝ }
+    requires { ⌜ Stands (now t) s ⌝ }
     ensures { λ r. ⌜ r ≡ keyOf key (recordOf (now (t .entry)) s) ⌝ }
 {
     match key {
@@ -29,7 +29,7 @@ fn key_of(t: &[u8], s: usize, key: Key) -> u32
 
 // The question below by sorting. At each turn the keys of the records before s are gathered.
 fn by_order(t: &[u8], n: usize, key: Key) -> bool
-    requires { ⌜ (n * 64 ≤ length (now t)) × (n ≤ 1024) ⌝ }
+    requires { ⌜ StandTo (now t) n × (n ≤ mostRecords) ⌝ }
     ensures { λ r. ⌜ r ≡ distinctTo n (λ s. keyOf key (recordOf (now (t .entry)) s)) ⌝ }
 {
     let mut keys = [0u32; RECORDS];
@@ -45,7 +45,7 @@ fn by_order(t: &[u8], n: usize, key: Key) -> bool
 // the cells hold just those. A key that finds no seat sends the whole question to the sort, so that no choice of keys
 // makes this slow.
 pub fn keys_distinct(t: &[u8], n: usize, key: Key) -> bool
-    requires { ⌜ (n * 64 ≤ length (now t)) × (n ≤ 1024) ⌝ }
+    requires { ⌜ StandTo (now t) n × (n ≤ mostRecords) ⌝ }
     ensures { λ r. ⌜ r ≡ distinctTo n (λ s. keyOf key (recordOf (now (t .entry)) s)) ⌝ }
 {
     let mut cells = [0u32; CELLS];

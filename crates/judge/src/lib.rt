@@ -2,7 +2,9 @@
 ghost use mathlib.Core.Path.{_≡_};
 ghost use Prim.Native.Nat.{_*_, _≤_};
 ghost use lib.ListN.{length};
+ghost use Rattle.refusals.specs.Limits.{mostRecords};
 ghost use Rattle.table.specs.Record.{recordOf};
+ghost use Rattle.table.specs.Stands.{StandTo};
 ghost use Rattle.judge.specs.WellFormed.{wellFormed};
 ghost use Rattle.judge.specs.Seen.{numbersAgree};
 
@@ -16,7 +18,7 @@ use links::links;
 
 // Is there one root if any record is used, and is every other used record counted as a child?
 fn numbers_agree(seen: Seen) -> bool
-    requires { ⌜ (seen .children ≤ 261120) × (seen .roots ≤ 1024) ⌝ }
+    requires { ⌜ (seen .children ≤ 261120) × (seen .roots ≤ mostRecords) ⌝ }
     ensures { λ r. ⌜ r ≡ numbersAgree seen ⌝ }
 {
     let any = (seen.used != 0) as usize;
@@ -25,7 +27,7 @@ fn numbers_agree(seen: Seen) -> bool
 
 // Are the first n records of `t` a well-formed table?
 pub fn well_formed(t: &[u8], n: usize) -> bool
-    requires { ⌜ (n * 64 ≤ length (now t)) × (n ≤ 1024) ⌝ }
+    requires { ⌜ StandTo (now t) n × (n ≤ mostRecords) ⌝ }
     ensures { λ r. ⌜ r ≡ wellFormed n (recordOf (now (t .entry))) ⌝ }
 {
     let seen = links(t, n);

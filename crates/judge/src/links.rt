@@ -3,18 +3,15 @@ ghost use mathlib.Core.Path.{_≡_};
 ghost use mathlib.Core.Bool.{_&&_};
 ghost use Prim.Native.Nat.{_+_, _*_, _≤_, _<_};
 ghost use lib.ListN.{length};
+ghost use Rattle.refusals.specs.Limits.{mostRecords, mostChildren};
 ghost use Rattle.table.specs.Record.{recordOf};
+ghost use Rattle.table.specs.Stands.{Stands, StandTo};
 ghost use Rattle.judge.specs.WellFormed.{isFilled, pastCount};
 ghost use Rattle.judge.specs.Counted.{allLinked};
 ghost use Rattle.judge.specs.Past.{firstFloors, lastFloors};
 ghost use Rattle.judge.specs.Seen.{Passed, Ended};
+use refusals::limit::CHILDREN;
 use table::NO_SLOT;
-
-// The largest kind there is.
-const KINDS: u8 = 2;
-
-// Most children of a record.
-const MOST: usize = 8;
 
 // By the count of children: the least number that the first four child slots make if those past the count are 65,535.
 fn first_floors() -> [u64; 9]
@@ -53,7 +50,7 @@ fn last_floors() -> [u64; 9]
 // Are the child slots past the count 65,535? Four at a time and by a row of floors, so that the count is no loop's end and
 // decides no branch, which would be hard to predict.
 fn past_ok(t: &[u8], s: usize, count: usize, first: &[u64; 9], last: &[u64; 9]) -> bool
-    requires { ⌜ (s * 64 + 64 ≤ length (now t)) × (count ≡ recordOf (now t) s .count) × (count ≤ 8) ⌝ }
+    requires { ⌜ Stands (now t) s × (count ≡ recordOf (now t) s .count) × (count ≤ mostChildren) ⌝ }
     requires { ⌜ (now first ≡ firstFloors) × (now last ≡ lastFloors) ⌝ }
     ensures { λ r. ⌜ r ≡ pastCount (recordOf (now (t .entry)) s) ⌝ }
 {
@@ -65,7 +62,7 @@ fn past_ok(t: &[u8], s: usize, count: usize, first: &[u64; 9], last: &[u64; 9]) 
 // Is each child in the table, does it name s as its parent, and is it younger than the one before it, the first than
 // the record itself? At each turn the i children passed are, and `before` is the last one's timestamp.
 fn children_ok(t: &[u8], n: usize, s: usize, count: usize, timestamp: u32) -> bool
-    requires { ⌜ (n * 64 ≤ length (now t)) × (s < n) × (count ≡ recordOf (now t) s .count) × (count ≤ 8)
+    requires { ⌜ StandTo (now t) n × (s < n) × (count ≡ recordOf (now t) s .count) × (count ≤ mostChildren)
         × (timestamp ≡ recordOf (now t) s .timestamp) ⌝ }
     ensures { λ r. ⌜ r ≡ allLinked n (recordOf (now (t .entry))) s ⌝ }
 {
@@ -97,12 +94,12 @@ fn record_ok(
     last: &[u64; 9],
 ) -> bool
     requires { ⌜ (now first ≡ firstFloors) × (now last ≡ lastFloors) ⌝ }
-    requires { ⌜ (n * 64 ≤ length (now t)) × (s < n) × (1 ≤ recordOf (now t) s .card)
+    requires { ⌜ StandTo (now t) n × (s < n) × (1 ≤ recordOf (now t) s .card)
         × (kind ≡ recordOf (now t) s .kind) × (count ≡ recordOf (now t) s .count) ⌝ }
     ensures { λ r. ⌜ r ≡ isFilled (recordOf (now (t .entry)) s) && allLinked n (recordOf (now (t .entry))) s ⌝ }
 {
     let timestamp = table::timestamp_of(t, s);
-    if (timestamp == 0) | (kind == 0) | (kind > KINDS) | (count as usize > MOST) {
+    if (timestamp == 0) | !distance::known_kind(kind) | (count > CHILDREN) {
         return false;
     }
     past_ok(t, s, count as usize, first, last) && children_ok(t, n, s, count as usize, timestamp)
@@ -121,7 +118,7 @@ pub struct Seen {
 // What the pass has seen, with the record in slot s besides.
 fn look(t: &[u8], n: usize, s: usize, seen: Seen, first: &[u64; 9], last: &[u64; 9]) -> Seen
     requires { ⌜ (now first ≡ firstFloors) × (now last ≡ lastFloors) ⌝ }
-    requires { ⌜ (n * 64 ≤ length (now t)) × (n ≤ 1024) × (s < n) × Passed n (recordOf (now t)) s seen ⌝ }
+    requires { ⌜ StandTo (now t) n × (n ≤ mostRecords) × (s < n) × Passed n (recordOf (now t)) s seen ⌝ }
     ensures { λ r. ⌜ Passed n (recordOf (now (t .entry))) (s + 1) r ⌝ }
 {
     if table::card_of(t, s) == 0 {
@@ -149,7 +146,7 @@ fn look(t: &[u8], n: usize, s: usize, seen: Seen, first: &[u64; 9], last: &[u64;
 
 // The whole pass, up to the first record that does not fit. At each turn it has seen the records before s, and they fit.
 pub fn links(t: &[u8], n: usize) -> Seen
-    requires { ⌜ (n * 64 ≤ length (now t)) × (n ≤ 1024) ⌝ }
+    requires { ⌜ StandTo (now t) n × (n ≤ mostRecords) ⌝ }
     ensures { λ r. ⌜ Ended n (recordOf (now (t .entry))) r ⌝ }
 {
     let first = first_floors();

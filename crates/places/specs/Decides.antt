@@ -14,6 +14,10 @@ pub record Decides (t : Bool) (P : Type 0) : Type 0 where
 
 -- ---- the tests of numbers
 
+-- a test decides what it says itself
+pub true-decided : (a : Bool) → Decides a (a ≡ true)
+true-decided a = record { shows = λ e. e; passes = λ e. e }
+
 pub le-decided : (a b : ℕ) → Decides (leb a b) (a ≤ b)
 le-decided a b = record { shows = leb-true a b; passes = le-leb a b }
 

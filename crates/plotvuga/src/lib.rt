@@ -2,7 +2,8 @@
 // needs to know. Each returns the paper's refusal number, 0 if it was done; counts go to where the caller points.
 ghost use mathlib.Core.Path.{_≡_};
 ghost use Rattle.table.specs.Clear.{Cleared, clearOf};
-ghost use Rattle.insert.specs.Insert.{Outcome, insertOf};
+ghost use Rattle.insert.specs.Insert.{insertOf};
+ghost use Rattle.refusals.specs.Outcome.{Outcome};
 ghost use Rattle.delete.specs.Delete.{deleteOf};
 ghost use Rattle.search.specs.Search.{searchOf};
 ghost use Rattle.search.specs.Search.{Outcome as Listing};

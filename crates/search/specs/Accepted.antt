@@ -15,32 +15,27 @@ use Rattle.places.specs.Choice.{pick, and-right}
 use Rattle.number.specs.Frame.{Bytes, number-lt}
 use Rattle.distance.specs.Laws.{farthest}
 use Rattle.distance.specs.Signature.{Fit, readings-fit}
-use Rattle.distance.specs.Kind.{apart, apart-distance}
+use Rattle.distance.specs.Kind.{apart, apart-distance, knownKind}
 use Rattle.table.specs.Record.{Record, recordOf, timestampAt, signatureAt}
 use Rattle.table.specs.Table.{rightSize, recordsIn}
 use Rattle.table.specs.Size.{whole}
-use Rattle.judge.specs.WellFormed.{WellFormed, wellFormed}
-use Rattle.judge.specs.Decided.{formed-decided}
+use Rattle.judge.specs.WellFormed.{wellFormed}
 use Rattle.survey.specs.Survey.{usedIn, rootOf, kindOf}
 use Rattle.survey.specs.Laws.{usedIn-most}
-use Rattle.tree.specs.Slots.{either, keep}
+use Rattle.tree.specs.Slots.{keep}
 use Rattle.tree.specs.View.{View, Formed, Late, usedCount, distanceCount}
 use Rattle.tree.specs.View.Count.{used-at-most}
 use Rattle.tree.specs.Search.{visit, listed}
 use Rattle.tree.specs.Search.Once.{visit-distinct, visit-used, visit-count}
 use Rattle.tree.specs.Search.Turn.{visitFrom-farthest}
 use Rattle.view.specs.View.{viewOf}
-use Rattle.view.specs.Refusal.{done, knownKind, otherKind, SIZE, TABLE, ARGUMENT, KIND, SHORT}
-use Rattle.view.specs.Shaped.{Shaped, shaped-bytes}
-use Rattle.view.specs.Formed.{formed-view, free-or-used}
-use Rattle.view.specs.Survey.{usedIn-usedCount, rootOf-is}
+use Rattle.view.specs.Refusal.{otherKind}
+use Rattle.refusals.specs.Refusal.{done, SIZE, TABLE, ARGUMENT, KIND, SHORT}
+use Rattle.view.specs.Survey.{usedIn-usedCount}
 use Rattle.search.specs.Search.{outcome, noBound, entered, cards, distances, refusalOf, listing}
-use Rattle.search.specs.Walk.{Stands, Walkable, walked, state, query, enteredFrom, after}
-
--- the bytes of a table of the right size that is well formed
-pub record Readable (l : List ℕ) : Type 0 where
-  pub size : rightSize (length l) ≡ true
-  pub formed : wellFormed (recordsIn l) (recordOf l) ≡ true
+use Rattle.search.specs.Walk.{walked, state, query, enteredFrom, after}
+use Rattle.admission.specs.Admission.{Readable}
+use Rattle.view.specs.Readable.{readable-seen}
 
 -- ---- the tests passed
 
@@ -74,42 +69,6 @@ accepted l kind s m e =
     }
 
 -- ---- the table
-
-module _ {l : List ℕ} (ok : Readable l) where
-  pub well : WellFormed (recordsIn l) (recordOf l)
-  well = formed-decided (recordsIn l) (recordOf l) .shows (ok .formed)
-
-  pub shape : Shaped (recordsIn l) (recordOf l)
-  shape = shaped-bytes (recordsIn l) l (whole (length l) (ok .size) .0)
-
-  pub seen :
-      1 ≤ usedIn (recordsIn l) (recordOf l)
-      → Formed (viewOf (recordOf l)) (recordsIn l) (rootOf (recordsIn l) (recordOf l))
-  seen = formed-view (whole (length l) (ok .size) .1) shape well
-
-  pub walkable : Walkable l
-  walkable =
-      record {
-        few =
-            λ s h.
-            either
-            (free-or-used shape (well .free-if-no-card) s)
-            (λ e. omega (arith, ap (λ (r : Record). r .count) e))
-            (λ z. well .filled s (z .0) (z .1) .count-to-8);
-        stand =
-            λ s i h b.
-            either
-            (free-or-used shape (well .free-if-no-card) s)
-            (λ e. absurd (omega (arith, ap (λ (r : Record). r .count) e)))
-            (λ z. omega (arith, whole (length l) (ok .size) .0, well .owned s i (z .0) (z .1) b .child-in));
-      }
-
--- the root of a used table stands in it
-pub root-stands :
-    {l : List ℕ} (ok : Readable l) → 1 ≤ usedIn (recordsIn l) (recordOf l)
-    → Stands l (rootOf (recordsIn l) (recordOf l))
-root-stands {l} ok some =
-    omega (arith, whole (length l) (ok .size) .0, rootOf-is (recordsIn l) (recordOf l) (well ok) some .0)
 
 -- four bytes hold no timestamp that the walk's first bound cuts off
 pub unbounded : (l : List ℕ) → Bytes l → Late (viewOf (recordOf l)) noBound
@@ -239,7 +198,7 @@ module _ {l : List ℕ} (ok : Readable l) (bytes : Bytes l) (kind : ℕ) (q : Li
       × (distances (recordsIn l) (recordOf l) kind q r ≤ usedIn (recordsIn l) (recordOf l))
       × (usedIn (recordsIn l) (recordOf l) < 2 ^ 32)
   walk-fits = (
-    cards-fit (recordsIn l) (recordOf l) kind q r (seen ok),
-    distances-fit (recordsIn l) (recordOf l) kind q r (seen ok),
+    cards-fit (recordsIn l) (recordOf l) kind q r (readable-seen ok),
+    distances-fit (recordsIn l) (recordOf l) kind q r (readable-seen ok),
     omega (arith, usedIn-most (recordsIn l) (recordOf l), whole (length l) (ok .size) .1),
   )

@@ -23,7 +23,7 @@ use Rattle.tree.specs.Search.Once.{visit-compared-distinct}
 use Rattle.tree.specs.Search.Wider.{count-wider}
 use Rattle.tree.specs.Search.Finds.{listed-once, listed-iff}
 use Rattle.view.specs.View.{viewOf}
-use Rattle.view.specs.Refusal.{done}
+use Rattle.refusals.specs.Refusal.{done}
 use Rattle.view.specs.Survey.{usedIn-usedCount}
 use Rattle.search.specs.Search.{outcome, noBound, entered, cards, distances, refusalOf, refused, searchOf}
 use Rattle.search.specs.Walk.{listingOf}

@@ -17,12 +17,13 @@ use Rattle.survey.specs.Survey.{usedIn, rootOf}
 use Rattle.tree.specs.Slots.{_∈_, Distinct}
 use Rattle.tree.specs.View.{Formed}
 use Rattle.view.specs.View.{viewOf}
-use Rattle.view.specs.Refusal.{done}
+use Rattle.refusals.specs.Refusal.{done}
 use Rattle.view.specs.Formed.{used-within}
 use Rattle.view.specs.Sound.{SoundTable}
 use Rattle.view.specs.Survey.{usedIn-seen}
 use Rattle.search.specs.Search.{outcome, cards, refusalOf, listing, searchOf}
-use Rattle.search.specs.Accepted.{accepted, seen, shape, unbounded, cards-fit, distances-fit}
+use Rattle.view.specs.Readable.{readable-seen, readable-shaped}
+use Rattle.search.specs.Accepted.{accepted, unbounded, cards-fit, distances-fit}
 use Rattle.search.specs.Laws.{accepted-is, refused-is, comparedSlots, distances-compared, compared-distinct}
 use Rattle.search.specs.Laws.{distances-narrower, cards-distinct, cards-exactly, laid}
 
@@ -71,7 +72,7 @@ module _ (l : List ℕ) (kind : ℕ) (s : List ℕ) where
     formed :
         1 ≤ usedIn (recordsIn l) (recordOf l)
         → Formed (viewOf (recordOf l)) (recordsIn l) (rootOf (recordsIn l) (recordOf l))
-    formed = seen (accepted l kind s (length list) e .readable)
+    formed = readable-seen (accepted l kind s (length list) e .readable)
 
     -- the count is the number of records compared
     pub count-compared : searchOf l kind s r list .count ≡ length comparedBy
@@ -138,5 +139,5 @@ module _ (l : List ℕ) (kind : ℕ) (s : List ℕ) where
         formed
         (λ some. rw (passed .of-kind some) at (ok .sound))
         (unbounded l bytes)
-        (λ a u. usedIn-seen (recordsIn l) (recordOf l) a (used-within (shape (passed .readable)) a u) u)
+        (λ a u. usedIn-seen (recordsIn l) (recordOf l) a (used-within (readable-shaped (passed .readable)) a u) u)
         c)

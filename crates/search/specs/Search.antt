@@ -7,7 +7,7 @@ use lib.ListN.{length}
 use lib.Seq.{sets}
 use Rattle.places.specs.Choice.{pick}
 use Rattle.distance.specs.Signature.{readingsAt}
-use Rattle.distance.specs.Kind.{apart}
+use Rattle.distance.specs.Kind.{apart, knownKind}
 use Rattle.table.specs.Record.{Record, recordOf}
 use Rattle.table.specs.Table.{rightSize, recordsIn}
 use Rattle.judge.specs.WellFormed.{wellFormed}
@@ -15,7 +15,8 @@ use Rattle.survey.specs.Survey.{usedIn, rootOf}
 use Rattle.tree.specs.View.{distanceCount}
 use Rattle.tree.specs.Search.{visit, listed}
 use Rattle.view.specs.View.{viewOf}
-use Rattle.view.specs.Refusal.{SIZE, TABLE, ARGUMENT, KIND, SHORT, firstOf, knownKind, otherKind, done}
+use Rattle.view.specs.Refusal.{otherKind}
+use Rattle.refusals.specs.Refusal.{SIZE, TABLE, ARGUMENT, KIND, SHORT, firstOf, done}
 
 -- what a search returns, and the list as it leaves it
 pub record Outcome : Type 0 where

@@ -13,7 +13,9 @@ use Rattle.table.specs.Record.{recordOf}
 use Rattle.table.specs.Table.{rightSize, recordsIn}
 use Rattle.judge.specs.WellFormed.{wellFormed}
 use Rattle.survey.specs.Survey.{usedIn, kindOf}
-use Rattle.view.specs.Refusal.{SIZE, TABLE, ARGUMENT, KIND, SHORT, firstOf, knownKind, otherKind, done}
+use Rattle.view.specs.Refusal.{otherKind}
+use Rattle.distance.specs.Kind.{knownKind}
+use Rattle.refusals.specs.Refusal.{SIZE, TABLE, ARGUMENT, KIND, SHORT, firstOf, done}
 use Rattle.search.specs.Search.{refusalOf}
 use Rattle.search.specs.Accepted.{none-first}
 

@@ -17,17 +17,6 @@ use Rattle.tree.specs.Search.Turn.{boundFrom, visitFrom}
 use Rattle.view.specs.View.{viewOf}
 use Rattle.search.specs.Search.{Outcome, cards, distances, listing}
 
--- ---- a table that can be walked
-
--- slot s stands in the bytes l
-abbrev pub Stands : List ℕ → ℕ → Type 0
-Stands l s = s * 64 + 64 ≤ length l
-
--- what a walk asks of the table: each record has at most eight children, and these stand in it
-pub record Walkable (l : List ℕ) : Type 0 where
-  pub few : (s : ℕ) → Stands l s → recordOf l s .count ≤ 8
-  pub stand : (s i : ℕ) → Stands l s → i < recordOf l s .count → Stands l (slot (recordOf l s) i)
-
 -- ---- one record, at the distance `away`
 
 -- step 1: "its timestamp is below t and its distance to the query is at most its covering radius plus r"

@@ -9,18 +9,18 @@ ghost use Rattle.survey.specs.Survey.{usedIn, rootOf};
 ghost use Rattle.search.specs.Search.{outcome, searchOf};
 ghost use Rattle.search.specs.Tests.{refusalBefore, refusalAfterOf};
 ghost use Rattle.search.specs.Walk.{listingOf};
-ghost use Rattle.search.specs.Accepted.{Readable};
+ghost use Rattle.admission.specs.Admission.{Readable};
 
 mod walk;
 
 use distance::Signature;
+use refusals::ARGUMENT;
+use refusals::DONE;
+use refusals::KIND;
+use refusals::SHORT;
+use refusals::SIZE;
+use refusals::TABLE;
 use table::RECORD;
-use table::refusal::ARGUMENT;
-use table::refusal::DONE;
-use table::refusal::KIND;
-use table::refusal::SHORT;
-use table::refusal::SIZE;
-use table::refusal::TABLE;
 use walk::Reached;
 
 // "No bound on time": above every timestamp that four bytes hold.

@@ -5,8 +5,10 @@ ghost use Prim.Native.Nat.{ℕ, _+_, _^_, _≤_, _<_, min};
 ghost use lib.ListN.{length, getD};
 ghost use lib.Seq.{sets};
 ghost use Rattle.distance.specs.Laws.{farthest};
+ghost use Rattle.refusals.specs.Limits.{mostChildren};
 ghost use Rattle.table.specs.Record.{recordOf};
-ghost use Rattle.search.specs.Walk.{Stands, Walkable, isCovered, isEntered, cardWithin, awayFrom, Compared};
+ghost use Rattle.table.specs.Stands.{Stands, Walkable};
+ghost use Rattle.search.specs.Walk.{isCovered, isEntered, cardWithin, awayFrom, Compared};
 ghost use Rattle.search.specs.Walk.{state, query, childBound, walked};
 use distance::Signature;
 
@@ -75,7 +77,7 @@ fn note(t: &[u8], s: usize, away: u64, radius: u64, list: &mut [u32], found: usi
 
 // Step 3: all n children of the record in slot s are compared, each once. At each turn the first k distances stand.
 fn distances(t: &[u8], kind: u8, q: Signature, s: usize, n: usize) -> [u64; 8]
-    requires { ⌜ Walkable (now t) × Stands (now t) s × (n ≡ recordOf (now t) s .count) × (n ≤ 8) ⌝ }
+    requires { ⌜ Walkable (now t) × Stands (now t) s × (n ≡ recordOf (now t) s .count) × (n ≤ mostChildren) ⌝ }
     ensures { λ r. ⌜ Compared (recordOf (now (t .entry))) kind (q .readings) s n r ⌝ }
 {
     let mut ds = [0u64; 8];
@@ -89,7 +91,7 @@ fn distances(t: &[u8], kind: u8, q: Signature, s: usize, n: usize) -> [u64; 8]
 
 // Step 3: the bound of child k, at the distances ds of the n children. At each turn it has met the siblings before j.
 fn bound_of(t: &[u8], s: usize, n: usize, ds: [u64; 8], k: usize, radius: u64, bound: u64) -> u64
-    requires { ⌜ Walkable (now t) × Stands (now t) s × (n ≡ recordOf (now t) s .count) × (n ≤ 8) ⌝ }
+    requires { ⌜ Walkable (now t) × Stands (now t) s × (n ≡ recordOf (now t) s .count) × (n ≤ mostChildren) ⌝ }
     requires { ⌜ (k < n) × (radius < 2 ^ 32) × ((j : ℕ) → getD ds j 0 ≤ farthest) ⌝ }
     ensures { λ x.
         ⌜ ((kind : ℕ) (q : List ℕ)

@@ -12,7 +12,7 @@ use Rattle.table.specs.Table.{rightSize, recordsIn}
 pub use Rattle.table.specs.Size.{whole}
 use Rattle.judge.specs.WellFormed.{wellFormed}
 use Rattle.judge.specs.Decided.{formed-decided}
-use Rattle.view.specs.Refusal.{SIZE, TABLE, LOOSE, done, firstOf}
+use Rattle.refusals.specs.Refusal.{SIZE, TABLE, LOOSE, done, firstOf}
 use Rattle.view.specs.Shaped.{shaped-bytes}
 use Rattle.view.specs.Sound.{SoundTable}
 use Rattle.soundness.specs.Soundness.{isSound, checkOf}

@@ -12,7 +12,8 @@ use Rattle.places.specs.Choice.{implies, and-left, and-right, and-both}
 use Rattle.places.specs.Test.{at-all}
 use Rattle.places.specs.Decides.{Decides, le-decided, lt-decided, both, if-so, at-each, reworded}
 use Rattle.distance.specs.Kind.{apart}
-use Rattle.table.specs.Record.{Record, Used, used, children, mostRecords}
+use Rattle.table.specs.Record.{Record, Used, used, children}
+use Rattle.refusals.specs.Limits.{mostRecords}
 use Rattle.judge.specs.WellFormed.{WellFormed}
 use Rattle.survey.specs.Survey.{usedIn, rootOf, kindOf}
 use Rattle.tree.specs.Slots.{_∈_, either, flatMap-from, flatMap-to}

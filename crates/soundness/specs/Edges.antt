@@ -17,7 +17,7 @@ use Rattle.judge.specs.WellFormed.{wellFormed, isFree, isFilled, pastCount, all
 use Rattle.judge.specs.WellFormed.{allHung, allOwned, allRising}
 use Rattle.survey.specs.Survey.{firstFrom, usedIn, kindOf}
 use Rattle.tree.specs.View.Under.{under}
-use Rattle.view.specs.Refusal.{done, LOOSE}
+use Rattle.refusals.specs.Refusal.{done, LOOSE}
 use Rattle.soundness.specs.Soundness.{checkOf, allIn, allCovered, allNear, isSound}
 
 -- card, timestamp, covering radius, parent, children and reading 0 of a record of kind 1

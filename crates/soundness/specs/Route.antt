@@ -12,7 +12,8 @@ use Rattle.places.specs.Test.{all-at, at-all, count-most}
 use Rattle.places.specs.Decides.{Decides, le-decided, lt-decided, eq-decided, both, if-so, not-so, at-each}
 use Rattle.places.specs.Decides.{reworded, decides-same}
 use Rattle.distance.specs.Kind.{apart, apart-distance}
-use Rattle.table.specs.Record.{Record, Used, used, slot, noSlot, children, mostRecords}
+use Rattle.table.specs.Record.{Record, Used, used, slot, noSlot, children}
+use Rattle.refusals.specs.Limits.{mostRecords}
 use Rattle.judge.specs.WellFormed.{WellFormed, eachUsed}
 use Rattle.survey.specs.Survey.{usedIn, kindOf}
 use Rattle.tree.specs.Slots.{_∈_, either}

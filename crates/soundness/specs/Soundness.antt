@@ -11,7 +11,7 @@ use Rattle.table.specs.Table.{rightSize, recordsIn}
 use Rattle.judge.specs.WellFormed.{eachUsed, wellFormed}
 use Rattle.survey.specs.Survey.{usedIn, kindOf}
 use Rattle.tree.specs.View.Under.{under}
-use Rattle.view.specs.Refusal.{SIZE, TABLE, LOOSE, firstOf}
+use Rattle.refusals.specs.Refusal.{SIZE, TABLE, LOOSE, firstOf}
 
 -- p holds of every slot in the list
 unfoldable pub allIn : List ℕ → (ℕ → Bool) → Bool

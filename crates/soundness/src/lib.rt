@@ -11,12 +11,12 @@ ghost use Rattle.soundness.specs.Soundness.{checkOf};
 ghost use Rattle.soundness.specs.Climb.{siblingPasses, siblingsPass, passes, climb, recordPasses, route};
 ghost use Rattle.soundness.specs.Stands.{Whole, Stands, Linked};
 use distance::Signature;
+use refusals::DONE;
+use refusals::LOOSE;
+use refusals::SIZE;
+use refusals::TABLE;
 use table::NO_SLOT;
 use table::RECORD;
-use table::refusal::DONE;
-use table::refusal::LOOSE;
-use table::refusal::SIZE;
-use table::refusal::TABLE;
 
 // If c is older than x, is x no farther from b than from c? From b it is `far`, so b itself costs no second distance.
 fn sibling_ok(t: &[u8], kind: u8, x: Signature, time: u32, far: u32, b: usize, c: usize) -> bool

@@ -3,6 +3,7 @@ ghost use mathlib.Core.Path.{_≡_};
 ghost use Prim.Native.Nat.{_+_, _*_, _^_, _≤_, _<_, max};
 ghost use lib.ListN.{length};
 ghost use Rattle.table.specs.Record.{recordOf};
+ghost use Rattle.table.specs.Stands.{Stands, StandTo, AreRecords};
 ghost use Rattle.survey.specs.Survey.{slotOfCard};
 ghost use Rattle.survey.specs.Pass.{noted, Answers};
 use table::NO_SLOT;
@@ -25,7 +26,7 @@ fn larger(a: u32, b: u32) -> u32
 
 // The record in slot s is seen, after all those behind it.
 fn note(t: &[u8], s: usize, f: Findings) -> Findings
-    requires { ⌜ (s * 64 + 64 ≤ length (now t)) × (f .used + 1 < 2 ^ 64) ⌝ }
+    requires { ⌜ Stands (now t) s × (f .used + 1 < 2 ^ 64) ⌝ }
     ensures { λ r. ⌜ r ≡ noted s (recordOf (now (t .entry)) s) f ⌝ }
 {
     if table::card_of(t, s) == 0 {
@@ -61,7 +62,7 @@ fn note(t: &[u8], s: usize, f: Findings) -> Findings
 // One pass, from the last record to the first, so that of several slots the first is kept.
 // At each turn the records from k on are seen.
 pub fn survey(t: &[u8], n: usize) -> Findings
-    requires { ⌜ n * 64 ≡ length (now t) ⌝ }
+    requires { ⌜ AreRecords (now t) n ⌝ }
     ensures { λ r. ⌜ Answers n (recordOf (now (t .entry))) r ⌝ }
 {
     let mut f = Findings {
@@ -81,7 +82,7 @@ pub fn survey(t: &[u8], n: usize) -> Findings
 
 // The first slot in which the card stands, or n. At each turn no slot before s has it.
 pub fn slot_of_card(t: &[u8], n: usize, card: u32) -> usize
-    requires { ⌜ n * 64 ≤ length (now t) ⌝ }
+    requires { ⌜ StandTo (now t) n ⌝ }
     ensures { λ r. ⌜ r ≡ slotOfCard n (recordOf (now (t .entry))) card ⌝ }
 {
     let mut s: usize = 0;

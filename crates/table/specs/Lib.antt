@@ -10,6 +10,7 @@ pub mod Span
 pub mod Same
 pub mod Records
 pub mod Size
+pub mod Stands
 pub mod Run
 pub mod Laws
 pub mod RoundTrip

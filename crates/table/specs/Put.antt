@@ -3,18 +3,7 @@ use Prim.Native.Nat.{ℕ, zero, suc, _+_, _*_}
 use mathlib.Core.List.{List}
 use lib.ListN.{getD, set}
 use Rattle.number.specs.Number.{withNumber}
-use Rattle.table.specs.Record.{
-  Record,
-  cardAt,
-  timestampAt,
-  radiusAt,
-  parentAt,
-  countAt,
-  kindAt,
-  slotsAt,
-  signatureAt,
-  recordLength,
-}
+use Rattle.table.specs.Record.{Record, cardAt, timestampAt, radiusAt, parentAt, countAt, kindAt, slotsAt, signatureAt, recordLength}
 
 -- ---- in the bytes
 

@@ -55,12 +55,12 @@ children r = take (r .count) (r .slots)
 
 -- ---- where it stands
 
--- the length of a record, and the most records a table has
+-- the length of a record, and of the largest table, of 1,024 records
 abbrev pub recordLength : ℕ
 recordLength = 64
 
-abbrev pub mostRecords : ℕ
-mostRecords = 1024
+abbrev pub largestTable : ℕ
+largestTable = 65536
 
 -- where the fields of the record in slot s start
 

@@ -9,7 +9,8 @@ use lib.Dec.{leb, eqb}
 use lib.ListN.{length}
 use borrow.Author.Tests.{leb-true, le-leb, eqb-true, eq-eqb}
 use Rattle.places.specs.Choice.{and-left, and-right, and-both}
-use Rattle.table.specs.Record.{recordOf, mostRecords}
+use Rattle.table.specs.Record.{recordOf}
+use Rattle.refusals.specs.Limits.{mostRecords}
 use Rattle.table.specs.Table.{rightSize, recordsOf, at}
 use Rattle.table.specs.Records.{records-at}
 

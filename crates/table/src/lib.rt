@@ -1,6 +1,5 @@
 // The record and the table in lent bytes. The places of a record's fields stand here and nowhere else in code.
 mod read;
-pub mod refusal;
 mod size;
 mod write;
 

@@ -6,6 +6,7 @@ ghost use Rattle.distance.specs.Signature.{wordOf};
 ghost use Rattle.distance.specs.Laws.{farthest};
 ghost use Rattle.distance.specs.Kind.{apart};
 ghost use Rattle.table.specs.Record.{recordOf, slot};
+ghost use Rattle.table.specs.Stands.{Stands};
 ghost use Rattle.table.specs.Same.{TellsFree};
 use super::COUNT;
 use super::KIND;
@@ -18,42 +19,42 @@ use super::TIMESTAMP;
 use distance::Signature;
 
 pub fn card_of(t: &[u8], s: usize) -> u32
-    requires { ⌜ s * 64 + 64 ≤ length (now t) ⌝ }
+    requires { ⌜ Stands (now t) s ⌝ }
     ensures { λ r. ⌜ r ≡ recordOf (now (t .entry)) s .card ⌝ }
 {
     number::get_u32(t, s * RECORD)
 }
 
 pub fn timestamp_of(t: &[u8], s: usize) -> u32
-    requires { ⌜ s * 64 + 64 ≤ length (now t) ⌝ }
+    requires { ⌜ Stands (now t) s ⌝ }
     ensures { λ r. ⌜ r ≡ recordOf (now (t .entry)) s .timestamp ⌝ }
 {
     number::get_u32(t, s * RECORD + TIMESTAMP)
 }
 
 pub fn radius_of(t: &[u8], s: usize) -> u32
-    requires { ⌜ s * 64 + 64 ≤ length (now t) ⌝ }
+    requires { ⌜ Stands (now t) s ⌝ }
     ensures { λ r. ⌜ r ≡ recordOf (now (t .entry)) s .radius ⌝ }
 {
     number::get_u32(t, s * RECORD + RADIUS)
 }
 
 pub fn parent_of(t: &[u8], s: usize) -> u16
-    requires { ⌜ s * 64 + 64 ≤ length (now t) ⌝ }
+    requires { ⌜ Stands (now t) s ⌝ }
     ensures { λ r. ⌜ r ≡ recordOf (now (t .entry)) s .parent ⌝ }
 {
     number::get_u16(t, s * RECORD + PARENT)
 }
 
 pub fn count_of(t: &[u8], s: usize) -> u8
-    requires { ⌜ s * 64 + 64 ≤ length (now t) ⌝ }
+    requires { ⌜ Stands (now t) s ⌝ }
     ensures { λ r. ⌜ r ≡ recordOf (now (t .entry)) s .count ⌝ }
 {
     t[s * RECORD + COUNT]
 }
 
 pub fn kind_of(t: &[u8], s: usize) -> u8
-    requires { ⌜ s * 64 + 64 ≤ length (now t) ⌝ }
+    requires { ⌜ Stands (now t) s ⌝ }
     ensures { λ r. ⌜ r ≡ recordOf (now (t .entry)) s .kind ⌝ }
 {
     t[s * RECORD + KIND]
@@ -61,7 +62,7 @@ pub fn kind_of(t: &[u8], s: usize) -> u8
 
 // Child slot i, counted from 0.
 pub fn slot_of(t: &[u8], s: usize, i: usize) -> u16
-    requires { ⌜ (s * 64 + 64 ≤ length (now t)) × (i < 8) ⌝ }
+    requires { ⌜ Stands (now t) s × (i < 8) ⌝ }
     ensures { λ r. ⌜ r ≡ slot (recordOf (now (t .entry)) s) i ⌝ }
 {
     number::get_u16(t, s * RECORD + SLOTS + 2 * i)
@@ -69,7 +70,7 @@ pub fn slot_of(t: &[u8], s: usize, i: usize) -> u16
 
 // How many children the record has, as a number of turns.
 pub fn children_of(t: &[u8], s: usize) -> usize
-    requires { ⌜ s * 64 + 64 ≤ length (now t) ⌝ }
+    requires { ⌜ Stands (now t) s ⌝ }
     ensures { λ r. ⌜ r ≡ recordOf (now (t .entry)) s .count ⌝ }
 {
     count_of(t, s) as usize
@@ -77,7 +78,7 @@ pub fn children_of(t: &[u8], s: usize) -> usize
 
 // Child slot i as a slot to read on from.
 pub fn child_of(t: &[u8], s: usize, i: usize) -> usize
-    requires { ⌜ (s * 64 + 64 ≤ length (now t)) × (i < 8) ⌝ }
+    requires { ⌜ Stands (now t) s × (i < 8) ⌝ }
     ensures { λ r. ⌜ r ≡ slot (recordOf (now (t .entry)) s) i ⌝ }
 {
     slot_of(t, s, i) as usize
@@ -85,14 +86,14 @@ pub fn child_of(t: &[u8], s: usize, i: usize) -> usize
 
 // Child slots 4k to 4k + 3 as one number, the first lowest.
 pub fn four_slots(t: &[u8], s: usize, k: usize) -> u64
-    requires { ⌜ (s * 64 + 64 ≤ length (now t)) × (k < 2) ⌝ }
+    requires { ⌜ Stands (now t) s × (k < 2) ⌝ }
     ensures { λ r. ⌜ r ≡ wordOf (recordOf (now (t .entry)) s .slots) k ⌝ }
 {
     number::get_u64(t, s * RECORD + SLOTS + 8 * k)
 }
 
 pub fn signature_of(t: &[u8], s: usize) -> Signature
-    requires { ⌜ s * 64 + 64 ≤ length (now t) ⌝ }
+    requires { ⌜ Stands (now t) s ⌝ }
     ensures { λ r. ⌜ r .readings ≡ recordOf (now (t .entry)) s .readings ⌝ }
 {
     distance::signature_at(t, s * RECORD + SIGNATURE)
@@ -100,7 +101,7 @@ pub fn signature_of(t: &[u8], s: usize) -> Signature
 
 // The distance of the record to q: the one place where a stored signature is compared.
 pub fn away_from(t: &[u8], s: usize, kind: u8, q: Signature) -> u32
-    requires { ⌜ s * 64 + 64 ≤ length (now t) ⌝ }
+    requires { ⌜ Stands (now t) s ⌝ }
     ensures { λ r. ⌜ (r ≡ apart kind (recordOf (now (t .entry)) s .readings) (q .readings)) × (r ≤ farthest) ⌝ }
 {
     distance::apart(kind, signature_of(t, s), q)
@@ -108,7 +109,7 @@ pub fn away_from(t: &[u8], s: usize, kind: u8, q: Signature) -> u32
 
 // Whether the record is free, that is, all zero. At each turn its first k words of eight bytes are zero.
 pub fn is_free(t: &[u8], s: usize) -> bool
-    requires { ⌜ s * 64 + 64 ≤ length (now t) ⌝ }
+    requires { ⌜ Stands (now t) s ⌝ }
     ensures { λ r. ⌜ TellsFree (now (t .entry)) s r ⌝ }
 {
     for k in 0..8usize {

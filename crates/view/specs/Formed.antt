@@ -9,7 +9,8 @@ use native.Mathlib.Omega.{arith}
 use native.Mathlib.Decide.{ℕ-discrete, decLe}
 use native.Mathlib.Numerals.{add-one}
 use lib.ListN.{length}
-use Rattle.table.specs.Record.{Record, Used, free, slot, noSlot, mostRecords, children}
+use Rattle.table.specs.Record.{Record, Used, free, slot, noSlot, children}
+use Rattle.refusals.specs.Limits.{mostRecords}
 use Rattle.judge.specs.WellFormed.{WellFormed, Filled, Hung, Owned}
 use Rattle.survey.specs.Survey.{usedIn, rootOf}
 use Rattle.tree.specs.Slots.{_∈_, either}

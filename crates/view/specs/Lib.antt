@@ -1,4 +1,4 @@
--- What joins a table's records to the tree's theorems, and the paper's refusal numbers.
+-- What joins a table's records to the tree's theorems.
 pub mod View
 pub mod Refusal
 pub mod Place
@@ -6,5 +6,6 @@ pub mod Children
 pub mod Shaped
 pub mod Survey
 pub mod Formed
+pub mod Readable
 pub mod Sound
 pub mod Stored

@@ -2,7 +2,8 @@
 -- Assumes nothing.
 use Prim.Native.Nat.{ℕ}
 use mathlib.Core.Path.{_≡_, sym, ap, _∙_}
-use Rattle.insert.specs.Insert.{Outcome, insertOf}
+use Rattle.insert.specs.Insert.{insertOf}
+use Rattle.refusals.specs.Outcome.{Outcome}
 use Rattle.delete.specs.Delete.{deleteOf}
 use Rattle.search.specs.Search.{searchOf}
 use Rattle.search.specs.Search.{Outcome as Listing}

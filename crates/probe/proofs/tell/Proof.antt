@@ -30,7 +30,7 @@ probe-judge-requires c κs = search needs
 survey-requires : tie.Need-survey-requires
 survey-requires c κs =
     let l = c .before .before .before .args .t .now in
-    sym (whole (length l) (judged-size l (judged c)) .0)
+    whole (length l) (judged-size l (judged c)) .0
 
 cast-t8 : tie.Need-cast-t8
 cast-t8 c =

@@ -10,7 +10,8 @@ use Rattle.table.specs.Table.{recordsIn}
 use Rattle.survey.specs.Survey.{usedIn}
 use Rattle.search.specs.Search.{noBound, cards, distances, listing}
 use Rattle.search.specs.Walk.{State, state, query, walked}
-use Rattle.search.specs.Accepted.{walkable, root-stands, listing-none, walk-leaves, walk-fits}
+use Rattle.view.specs.Readable.{readable-walkable, readable-root}
+use Rattle.search.specs.Accepted.{listing-none, walk-leaves, walk-fits}
 use native.Mathlib.Omega.{arith}
 use borrow.Author.Needs.{needs}
 use Rattle.search.proofs.accepted.Statement.{statement}
@@ -37,7 +38,7 @@ away-from-requires c κs =
     let n = recordsIn l in
     let R = recordOf l in
     let e = p .1 .0 in
-    rw (p .1 .1) (root-stands (p .0 .0) (omega arith))
+    rw (p .1 .1) (readable-root (p .0 .0) (omega arith))
 
 abbrev Known : lts.Claims
 Known = (away-from-reads.Asked, away-from-reads.Learnt, walk-reads.Asked, walk-reads.Learnt)
@@ -77,7 +78,7 @@ walk-requires c κs =
     let some : 1 ≤ usedIn n R = omega arith in
     let left = leaves c in
     let fits = walk-fits (p .0 .0) (bytes c) (a .kind) (a .q .readings) (p .0 .1) (a .radius) some in (
-      (walkable (p .0 .0), rw (p .1 .1) (root-stands (p .0 .0) some), p .0 .2, c .before .away-from .ensures .0),
+      (readable-walkable (p .0 .0), rw (p .1 .1) (readable-root (p .0 .0) some), p .0 .2, c .before .away-from .ensures .0),
       (rw left (omega arith), rw left (omega arith)),
     )
 

@@ -4,7 +4,7 @@ use mathlib.Core.Path.{_≡_, sym, _∙_}
 use lib.ListN.{length}
 use Rattle.distance.specs.Signature.{Fit, readings-fit}
 use Rattle.table.specs.Size.{whole}
-use Rattle.view.specs.Refusal.{done}
+use Rattle.refusals.specs.Refusal.{done}
 use Rattle.search.specs.Search.{refusalOf}
 use Rattle.search.specs.Tests.{refusalBefore, refusalAfter, refusal-before, refusal-after, before-size}
 use Rattle.search.specs.Accepted.{Accepted, accepted}
@@ -63,7 +63,7 @@ none c = sym (c .before .refusal-before .ensures) ∙ c .if1 .left
 survey-requires : tie.Need-survey-requires
 survey-requires c κs =
     let a = c .before .before .before .before .before .args in
-    sym (whole (length (a .t .now)) (before-size (a .t .now) (a .kind) (a .signature .now) (none c)) .0)
+    whole (length (a .t .now)) (before-size (a .t .now) (a .kind) (a .signature .now) (none c)) .0
 
 refusal-after-requires : tie.Need-refusal-after-requires
 refusal-after-requires c κs = search needs

@@ -59,8 +59,7 @@ still-filled r q h f =
       card-from-1 = rw (h .kept .card) (f .card-from-1);
       timestamp-from-1 = rw (h .kept .timestamp) (f .timestamp-from-1);
       count-to-8 = rw (h .count) (f .count-to-8);
-      kind-from-1 = rw (h .kept .kind) (f .kind-from-1);
-      kind-to-2 = rw (h .kept .kind) (f .kind-to-2);
+      kind-known = rw (h .kept .kind) (f .kind-known);
       past-count = λ i p b. rw (h .slots) (f .past-count i (rw (h .count) at p) b);
     }
 
@@ -71,8 +70,7 @@ adopting-filled s r h f =
       card-from-1 = f .card-from-1;
       timestamp-from-1 = f .timestamp-from-1;
       count-to-8 = omega arith;
-      kind-from-1 = f .kind-from-1;
-      kind-to-2 = f .kind-to-2;
+      kind-known = f .kind-known;
       past-count =
           λ i p b.
           getD-set-other (r .slots) (r .count) i s 0 (λ e. omega arith) ∙ f .past-count i (omega arith) b;

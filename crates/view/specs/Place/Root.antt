@@ -34,8 +34,7 @@ fresh-filled ready t p h =
       card-from-1 = ready .card-some;
       timestamp-from-1 = h;
       count-to-8 = omega arith;
-      kind-from-1 = ready .kind-from-1;
-      kind-to-2 = ready .kind-to-2;
+      kind-known = ready .kind-known;
       past-count = λ i _ b. getD-replicate 8 i noSlot 0 b;
     }
 

@@ -2,12 +2,15 @@
 -- the used slots, their number, the timestamps and the kinds. Assumes nothing.
 use Prim.Native.Nat.{ℕ, suc, _+_, _≤_, _<_}
 use mathlib.Core.Path.{_≡_, sym, ap, _∙_}
+use mathlib.Core.Bool.{true}
 use mathlib.Core.Logic.{_⊎_, inl, inr}
 use mathlib.Core.List.{List}
 use native.Mathlib.Omega.{arith}
 use native.Mathlib.Decide.{ℕ-discrete}
 use lib.ListN.{length}
-use Rattle.table.specs.Record.{Record, Used, mostRecords}
+use Rattle.distance.specs.Kind.{knownKind}
+use Rattle.table.specs.Record.{Record, Used}
+use Rattle.refusals.specs.Limits.{mostRecords}
 use Rattle.table.specs.Table.{at}
 use Rattle.judge.specs.WellFormed.{WellFormed}
 use Rattle.survey.specs.Survey.{usedIn, largestTimestamp}
@@ -33,8 +36,7 @@ pub record Ready (n arity s : ℕ) (x : Newcomer) (rows : List Record) : Type 0 
   pub card-some : 1 ≤ x .card
   pub card-new : (a : ℕ) → a < n → at rows a .card ≡ x .card → ⊥
   -- the kind is known, and in a used table the table's
-  pub kind-from-1 : 1 ≤ x .kind
-  pub kind-to-2 : x .kind ≤ 2
+  pub kind-known : knownKind (x .kind) ≡ true
   pub kind-same : (a : ℕ) → a < n → Used (at rows a) → at rows a .kind ≡ x .kind
   pub sixteen : length (x .readings) ≡ 16
   pub arity-to-8 : arity ≤ 8

@@ -7,7 +7,7 @@ use Rattle.table.specs.Record.{recordOf}
 use Rattle.table.specs.Table.{recordsIn}
 use Rattle.table.specs.Size.{whole}
 use Rattle.survey.specs.Survey.{slotOfCard}
-use Rattle.view.specs.Refusal.{done}
+use Rattle.refusals.specs.Refusal.{done}
 use Rattle.insert.specs.Refusals.{early-passed}
 use Rattle.delete.specs.Plan.{outcomeAt}
 use Rattle.delete.specs.Call.{
@@ -76,7 +76,7 @@ delete-at-requires c κs =
     let p = passed (c .before .before .before .before) in
     let right = early-passed _ _ _ p .size-right in (
       rw (c .before .before .slot-of-card .ensures) (present-held l (a .card) (a .arity) p (stands (c .before))),
-      sym (whole (length l) right .0),
+      whole (length l) right .0,
       arity-few l (a .card) (a .arity) p,
     )
 

@@ -7,7 +7,7 @@ use borrow.Author.Needs.{needs}
 use lib.ListN.{length}
 use Rattle.number.specs.Frame.{Bytes}
 use Rattle.table.specs.Size.{whole}
-use Rattle.view.specs.Refusal.{done}
+use Rattle.refusals.specs.Refusal.{done}
 use Rattle.insert.specs.Insert.{refusalOf}
 use Rattle.insert.specs.Refusals.{earlyOf, lateOf, early-passed, refusal-early, refusal-late}
 use Rattle.insert.specs.Accepted.{accepted-signature}
@@ -92,7 +92,7 @@ returns c =
 survey-requires : tie.Need-survey-requires
 survey-requires c κs =
     let a = from-early (c .before .before) .args in
-    sym (whole (length (a .t .now)) (early-passed _ _ _ (passed-first (c .before)) .size-right) .0)
+    whole (length (a .t .now)) (early-passed _ _ _ (passed-first (c .before)) .size-right) .0
 
 slot-of-card-requires : tie.Need-slot-of-card-requires
 slot-of-card-requires c κs = search needs

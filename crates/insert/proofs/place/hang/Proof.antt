@@ -3,7 +3,8 @@
 use Rattle.number.specs.Frame.{Bytes}
 use Rattle.table.specs.Table.{recordsOf}
 use Rattle.table.specs.RoundTrip.{record-fits}
-use Rattle.insert.specs.Descent.{Stands, descent}
+use Rattle.insert.specs.Descent.{descent}
+use Rattle.table.specs.Stands.{Stands}
 use Rattle.insert.proofs.Hanging.{host-stands, walk-read, on-host, host-room, hung}
 use native.Mathlib.Omega.{arith}
 use borrow.Author.Needs.{needs}

@@ -15,7 +15,8 @@ use borrow.Fn.Kinds.{In}
 use borrow.Fn.PlainCycle.{Measures, is, falls, and}
 use Rattle.distance.specs.Laws.{farthest}
 use Rattle.table.specs.Record.{recordOf, slot}
-use Rattle.search.specs.Walk.{Stands, isCovered, isEntered, cardWithin, State, state, query, smallestTo}
+use Rattle.search.specs.Walk.{isCovered, isEntered, cardWithin, State, state, query, smallestTo}
+use Rattle.table.specs.Stands.{Stands}
 use Rattle.search.specs.Walk.{childBound, enteredFrom, after}
 use Rattle.search.specs.declared.walk.Reached.{Reached}
 use Rattle.search.proofs.Steps

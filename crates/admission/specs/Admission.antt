@@ -1,0 +1,91 @@
+-- What every call learns of a table before anything else: refusal 1 or 2, or else the answers to the small questions.
+-- Assumes nothing.
+use Prim.Native.Nat.{ℕ}
+use mathlib.Core.Path.{_≡_, refl, sym, _∙_}
+use mathlib.Core.Bool.{Bool, true, false, not}
+use mathlib.Core.List.{List, [], _∷_}
+use native.Mathlib.Omega.{arith}
+use lib.ListN.{length}
+use borrow.Author.Tests.{not-false}
+use Rattle.places.specs.Choice.{or-left, or-right}
+use Rattle.refusals.specs.Refusal.{Test, firstOf, done, SIZE, TABLE}
+use Rattle.refusals.specs.First.{anyHolds, first-none}
+use Rattle.table.specs.Record.{recordOf}
+use Rattle.table.specs.Table.{rightSize, recordsIn}
+use Rattle.judge.specs.WellFormed.{wellFormed}
+use Rattle.survey.specs.declared.Findings.{Findings}
+use Rattle.survey.specs.Pass.{Answers, found}
+use Rattle.admission.specs.declared.Admitted.{Admitted}
+
+-- "1, SIZE: the table's length isn't a multiple of 64 from 64 to 65,536; 2, TABLE: not well formed"
+abbrev pub admissionTests : List ℕ → List Test
+admissionTests l =
+    (not (rightSize (length l)), SIZE) ∷ (not (wellFormed (recordsIn l) (recordOf l)), TABLE) ∷ []
+
+-- of a refused table nothing is told
+abbrev pub nothing : Findings
+nothing = found 0 0 0 0 0
+
+-- r is what is learnt of the table l
+pub record Admits (l : List ℕ) (r : Admitted) : Type 0 where
+  pub refusal-is : r .refusal ≡ firstOf (admissionTests l)
+  pub answers : r .refusal ≡ done → Answers (recordsIn l) (recordOf l) (r .found)
+  pub silent : (r .refusal ≡ done → ⊥) → r .found ≡ nothing
+
+-- ---- a table that is admitted
+
+-- the bytes of a table of the right size that is well formed
+pub record Readable (l : List ℕ) : Type 0 where
+  pub size : rightSize (length l) ≡ true
+  pub formed : wellFormed (recordsIn l) (recordOf l) ≡ true
+
+pub admitted-readable : (l : List ℕ) → firstOf (admissionTests l) ≡ done → Readable l
+admitted-readable l e =
+    let a = not (rightSize (length l)) in
+    let b = not (wellFormed (recordsIn l) (recordOf l)) in
+    let none = first-none (admissionTests l) refl e in
+    record {
+      size = not-false (rightSize (length l)) (or-left a (anyHolds ((b, TABLE) ∷ [])) none);
+      formed =
+          not-false (wellFormed (recordsIn l) (recordOf l))
+          (or-left b false (or-right a (anyHolds ((b, TABLE) ∷ [])) none));
+    }
+
+-- ---- the three ends of the judging
+
+pub admits-size :
+    (l : List ℕ) (r : Admitted) → rightSize (length l) ≡ false → r .refusal ≡ SIZE → r .found ≡ nothing → Admits l r
+admits-size l r e k f =
+    record {
+      refusal-is = k ∙ sym (rw e);
+      answers = λ z. absurd (omega (arith, k, z));
+      silent = λ _. f;
+    }
+
+pub admits-table :
+    (l : List ℕ) (r : Admitted)
+    → rightSize (length l) ≡ true
+    → wellFormed (recordsIn l) (recordOf l) ≡ false
+    → r .refusal ≡ TABLE
+    → r .found ≡ nothing
+    → Admits l r
+admits-table l r e w k f =
+    record {
+      refusal-is = k ∙ sym (rw (e, w));
+      answers = λ z. absurd (omega (arith, k, z));
+      silent = λ _. f;
+    }
+
+pub admits-done :
+    (l : List ℕ) (r : Admitted)
+    → rightSize (length l) ≡ true
+    → wellFormed (recordsIn l) (recordOf l) ≡ true
+    → r .refusal ≡ done
+    → Answers (recordsIn l) (recordOf l) (r .found)
+    → Admits l r
+admits-done l r e w k a =
+    record {
+      refusal-is = k ∙ sym (rw (e, w));
+      answers = λ _. a;
+      silent = λ ne. absurd (ne k);
+    }

@@ -1,0 +1,2 @@
+-- What every call learns of a table before anything else.
+pub mod Admission

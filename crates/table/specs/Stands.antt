@@ -1,0 +1,119 @@
+-- Which records stand in lent bytes: what a contract over a table asks of it, in place of where its bytes end. Callers use
+-- the laws below and not the text of these names. Assumes nothing.
+use Prim.Native.Nat.{ℕ, _+_, _*_, _/_, _%_, _≤_, _<_}
+use mathlib.Core.Path.{_≡_, ap, sym, _∙_}
+use mathlib.Core.Bool.{true}
+use mathlib.Core.List.{List}
+use native.Mathlib.Omega.{arith}
+use lib.ListN.{length}
+use Rattle.refusals.specs.Limits.{mostRecords, mostChildren}
+use Rattle.table.specs.Record.{recordOf, slot, recordLength, largestTable}
+use Rattle.table.specs.Table.{rightSize, recordsIn}
+use Rattle.table.specs.Size.{whole}
+
+-- ---- what stands
+
+-- slot s stands in the bytes l
+abbrev pub Stands : List ℕ → ℕ → Type 0
+Stands l s = s * recordLength + recordLength ≤ length l
+
+-- the first n slots do
+abbrev pub StandTo : List ℕ → ℕ → Type 0
+StandTo l n = n * recordLength ≤ length l
+
+-- the bytes are n records, and nothing besides
+abbrev pub AreRecords : List ℕ → ℕ → Type 0
+AreRecords l n = length l ≡ n * recordLength
+
+-- the bytes are whole records
+abbrev pub WholeRecords : List ℕ → Type 0
+WholeRecords l = length l % recordLength ≡ 0
+
+-- what a walk asks of a table: whole records, each with at most eight children, and these stand in it
+pub record Walkable (l : List ℕ) : Type 0 where
+  pub whole : WholeRecords l
+  pub few : (s : ℕ) → Stands l s → recordOf l s .count ≤ mostChildren
+  pub stand : (s i : ℕ) → Stands l s → i < recordOf l s .count → Stands l (slot (recordOf l s) i)
+
+-- ---- one from another
+
+-- each of the first n
+pub stands-below : (l : List ℕ) (n s : ℕ) → StandTo l n → s < n → Stands l s
+stands-below l n s h b = omega arith
+
+-- a slot stands exactly if it is one of the table's
+pub stands-in : (l : List ℕ) (s : ℕ) → s < recordsIn l → Stands l s
+stands-in l s h = omega arith
+
+pub in-stands : (l : List ℕ) (s : ℕ) → Stands l s → s < recordsIn l
+in-stands l s h = omega arith
+
+-- all slots of a table stand in it, and no more
+pub stand-all : (l : List ℕ) → StandTo l (recordsIn l)
+stand-all l = omega arith
+
+pub stand-most : (l : List ℕ) (n : ℕ) → StandTo l n → n ≤ recordsIn l
+stand-most l n h = omega arith
+
+-- ---- bytes that are whole records
+
+pub whole-are : (l : List ℕ) → WholeRecords l → AreRecords l (recordsIn l)
+whole-are l w = omega arith
+
+pub are-whole : (l : List ℕ) (n : ℕ) → AreRecords l n → WholeRecords l
+are-whole l n e = omega arith
+
+pub are-in : (l : List ℕ) (n : ℕ) → AreRecords l n → recordsIn l ≡ n
+are-in l n e = omega arith
+
+pub are-stand : (l : List ℕ) (n : ℕ) → AreRecords l n → StandTo l n
+are-stand l n e = omega arith
+
+-- so many are a table's most
+pub are-large : (l : List ℕ) (n : ℕ) → AreRecords l n → n ≤ mostRecords → length l ≤ largestTable
+are-large l n e h = omega arith
+
+-- a table of the right size is whole records, 1 to 1,024 of them
+pub right-are : (l : List ℕ) → rightSize (length l) ≡ true → AreRecords l (recordsIn l)
+right-are l e = whole (length l) e .0
+
+pub right-most : (l : List ℕ) → rightSize (length l) ≡ true → recordsIn l ≤ mostRecords
+right-most l e = whole (length l) e .1
+
+pub right-some : (l : List ℕ) → rightSize (length l) ≡ true → 1 ≤ recordsIn l
+right-some l e = whole (length l) e .2
+
+-- ---- bytes of the same length
+
+module _ (l m : List ℕ) (long : length m ≡ length l) where
+  pub stands-same : (s : ℕ) → Stands l s → Stands m s
+  stands-same s h = omega arith
+
+  pub stand-to-same : (n : ℕ) → StandTo l n → StandTo m n
+  stand-to-same n h = omega arith
+
+  pub are-same : (n : ℕ) → AreRecords l n → AreRecords m n
+  are-same n e = long ∙ e
+
+  pub whole-same : WholeRecords l → WholeRecords m
+  whole-same w = ap (λ (k : ℕ). k % recordLength) long ∙ w
+
+  pub in-same : recordsIn m ≡ recordsIn l
+  in-same = ap (λ (k : ℕ). k / recordLength) long
+
+-- a table of the same child counts and child slots can be walked too
+pub walkable-same :
+    {l m : List ℕ}
+    → length m ≡ length l
+    → ((s : ℕ) → recordOf m s .count ≡ recordOf l s .count)
+    → ((s : ℕ) → recordOf m s .slots ≡ recordOf l s .slots)
+    → Walkable l
+    → Walkable m
+walkable-same {l} {m} long counts slots w =
+    record {
+      whole = whole-same l m long (w .whole);
+      few = λ s h. rw (counts s) (w .few s (stands-same m l (sym long) s h));
+      stand = λ s i h p.
+          rw (slots s) (stands-same l m long (slot (recordOf l s) i)
+          (w .stand s i (stands-same m l (sym long) s h) (rw (counts s) at p)));
+    }
