@@ -1,7 +1,7 @@
 #!/usr/bin/env bash
-# Passes every test of the repository, and installs what it needs: the layout, every proof from nothing, every must-fail
-# edit and the reason it was refused for, every program's output, and the comparisons with the independent model, part by
-# part and whole, from C and from Rust.
+# Passes every test of the repository, and installs what it needs: the layout and the rules of the house, every proof
+# from nothing, every must-fail edit and the reason it was refused for, every program's output, and the
+# comparisons with the independent model, part by part and whole, from C and from Rust.
 # Its last line is 'N passed, M failed', summed over all of it; it exits non-zero if anything failed.
 set -u
 cd "$(dirname "$0")/.."
@@ -42,6 +42,10 @@ bash tools/setup.sh || { failed=1; finish; }
 
 say "layout"
 step "rt fmt --check" rt fmt --check
+
+say "the rules of the house"
+bash tools/house.sh 2>&1 | tee "$logs/house"
+add "${PIPESTATUS[0]}" "$logs/house"
 
 say "proofs, must-fail edits, programs"
 rt ci 2>&1 | tee "$logs/ci"
