@@ -1,6 +1,6 @@
 #!/usr/bin/env bash
 # Passes every test of the repository, and installs what it needs: the layout and the rules of the house, every proof
-# from nothing, every must-fail edit and the reason it was refused for, every program's output, and the
+# from nothing, every must-fail edit, the reason it was refused for and what they cost, every program's output, and the
 # comparisons with the independent model, part by part and whole, from C and from Rust.
 # Its last line is 'N passed, M failed', summed over all of it; it exits non-zero if anything failed.
 set -u
@@ -47,13 +47,25 @@ say "the rules of the house"
 bash tools/house.sh 2>&1 | tee "$logs/house"
 add "${PIPESTATUS[0]}" "$logs/house"
 
+# The kit's own crates show that the kit is whole, and how fast the machine is.
+say "the yardstick"
+TIMEFORMAT='%U %S'
+{ time step "rt selftest" rt selftest 2>&1; } 2>"$logs/yardstick"
+
 say "proofs, must-fail edits, programs"
+bash tools/seconds.sh watch "$logs/checks" &
+watcher=$!
 rt ci 2>&1 | tee "$logs/ci"
 add "${PIPESTATUS[0]}" "$logs/ci"
+kill "$watcher"
 
 say "must-fail edits are refused for a fact"
 bash tools/facts.sh 2>&1 | tee "$logs/facts"
 add "${PIPESTATUS[0]}" "$logs/facts"
+
+say "what the proofs and the must-fail edits cost"
+bash tools/seconds.sh tell "$logs/ci" "$logs/checks" "$logs/yardstick" 2>&1 | tee "$logs/seconds"
+add "${PIPESTATUS[0]}" "$logs/seconds"
 
 say "the proved code against the independent model"
 bash tools/compare.sh 2>&1 | tee "$logs/compare"
