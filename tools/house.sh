@@ -30,7 +30,7 @@ sources() { # SUFFIX..
         sed 's|^\./||' | sort
 }
 
-limit() { sed -nE "s|^$1 ([0-9]+)( .*)?\$|\1|p" tools/limits.txt; }
+limit() { sed -nE "s|^$1 ([0-9]+)( .*)?\$|\1|p" tools/limits.txt | head -n 1; }
 
 # Holds a count to its limit, and shows where it is above.
 count() { # NAME WHAT COMMAND, which prints each place on a line

@@ -14,7 +14,7 @@ set -u
 cd -P "$(dirname "$0")/.."
 passed=0 failed=0
 
-limit() { sed -nE "s|^$1 ([0-9]+)( .*)?\$|\1|p" tools/limits.txt; }
+limit() { sed -nE "s|^$1 ([0-9]+)( .*)?\$|\1|p" tools/limits.txt | head -n 1; }
 
 # A line 'PROCESS TICKS FILE' for each check of this repository that runs, again and again while the file is there.
 watch() { # CHECKS
