@@ -1,15 +1,17 @@
 #!/usr/bin/env bash
 # Says what the proofs and the must-fail edits cost, crate by crate, and holds it to tools/limits.txt.
 #   bash tools/seconds.sh watch CHECKS                  beside `rt ci`, until it is stopped: what each check has used
-#   bash tools/seconds.sh tell LOG CHECKS YARDSTICK     afterwards: LOG is what `rt ci` printed, YARDSTICK the user and
-#                                                       system seconds of `rt selftest` in the same run
+#   bash tools/seconds.sh tell LOG CHECKS YARDSTICK     afterwards: LOG is what `rt ci` printed, YARDSTICK has the user
+#                                                       and system seconds of `rt selftest`, a line for each run of it
 #
 # A gate that goes red because the machine was slow is worse than none. So no limit is held to the clock:
-# - rt tells each check's time by the clock, which runs on while a loaded machine does something else. These times are
-#   printed; what is held to a limit is the processor's time, which load hardly changes. rt does not tell it, so it is
-#   read from /proc, twice a second.
+# - rt tells each check's time by the clock, which runs on while a loaded machine does something else: tenfold has been
+#   seen. These times are printed; what is held to a limit is the processor's time, which load changes by a third at
+#   most. rt does not tell it, so it is read from /proc, twice a second.
 # - A slow processor is found out by the yardstick, the kit's own small crates, which stay the same while ours change.
-#   All limits are in seconds of a machine that takes `yardstick` seconds for them.
+#   All limits are in seconds of a machine that takes `yardstick` seconds for them. It is taken before and after, and
+#   the slower of the two counts.
+# - Limits leave room for what is left of it: see tools/limits.txt.
 set -u
 cd -P "$(dirname "$0")/.."
 passed=0 failed=0
@@ -110,7 +112,7 @@ hold() { # WHAT SECONDS LIMIT CLOCK
 
 tell() { # LOG CHECKS YARDSTICK
     local all speed crate clock proof most
-    speed=$(awk -v l="$(limit yardstick)" '{ s += $1 + $2 } END { if (s > 0) print l / s; else print 0 }' "$3")
+    speed=$(awk -v l="$(limit yardstick)" '$1 + $2 > s { s = $1 + $2 } END { print (s > 0 ? l / s : 0) }' "$3")
     all=$(rows "$1" "$2" "$speed")
     printf '%s\n' "$all" | show
     echo "a second of this machine's processor counts $speed, by the yardstick"

@@ -27,6 +27,12 @@ step() { # NAME COMMAND..
     if "$@"; then passed=$((passed + 1)); else failed=$((failed + 1)); echo "FAILED: $name"; fi
 }
 
+# Proves the kit's own crates, and notes the processor's time that it took, the user's and the system's.
+yardstick() {
+    local TIMEFORMAT='%U %S'
+    { time step "rt selftest" rt selftest 2>&1; } 2>>"$logs/yardstick"
+}
+
 finish() {
     echo
     echo "$passed passed, $failed failed"
@@ -47,10 +53,8 @@ say "the rules of the house"
 bash tools/house.sh 2>&1 | tee "$logs/house"
 add "${PIPESTATUS[0]}" "$logs/house"
 
-# The kit's own crates show that the kit is whole, and how fast the machine is.
-say "the yardstick"
-TIMEFORMAT='%U %S'
-{ time step "rt selftest" rt selftest 2>&1; } 2>"$logs/yardstick"
+say "the kit is whole, and how fast the machine is"
+yardstick
 
 say "proofs, must-fail edits, programs"
 bash tools/seconds.sh watch "$logs/checks" &
@@ -64,6 +68,7 @@ bash tools/facts.sh 2>&1 | tee "$logs/facts"
 add "${PIPESTATUS[0]}" "$logs/facts"
 
 say "what the proofs and the must-fail edits cost"
+yardstick
 bash tools/seconds.sh tell "$logs/ci" "$logs/checks" "$logs/yardstick" 2>&1 | tee "$logs/seconds"
 add "${PIPESTATUS[0]}" "$logs/seconds"
 
