@@ -14,7 +14,8 @@ use Rattle.table.specs.Records.{records-length, records-at}
 use Rattle.judge.specs.WellFormed.{WellFormed}
 use Rattle.survey.specs.Survey.{usedIn, rootOf, kindOf}
 use Rattle.survey.specs.Laws.{usedIn-most}
-use Rattle.tree.specs.Slots.{_∈_, either, ∈-decide}
+use Rattle.tree.specs.Slots.{_∈_, ∈-decide}
+use Rattle.places.specs.Cases.{either}
 use Rattle.view.specs.Shaped.{Shaped}
 use Rattle.view.specs.Survey.{rootOf-is}
 use Rattle.view.specs.Formed.{free-or-used, used-within, formed-view}

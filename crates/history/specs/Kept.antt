@@ -16,7 +16,8 @@ use Rattle.table.specs.Table.{rightSize, recordsIn, recordsOf, at}
 use Rattle.table.specs.Size.{rows-are}
 use Rattle.table.specs.Clear.{clear-done}
 use Rattle.survey.specs.Survey.{slotOfCard}
-use Rattle.tree.specs.Slots.{_∈_, Distinct, either, image-from, image-to}
+use Rattle.tree.specs.Slots.{_∈_, Distinct, image-from, image-to}
+use Rattle.places.specs.Cases.{either}
 use Rattle.refusals.specs.Refusal.{done}
 use Rattle.view.specs.Place.{Newcomer}
 use Rattle.view.specs.Stored.{Stored, brought-card}

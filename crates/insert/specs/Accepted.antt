@@ -20,7 +20,7 @@ use Rattle.judge.specs.WellFormed.{WellFormed, wellFormed}
 use Rattle.judge.specs.Decided.{formed-decided}
 use Rattle.survey.specs.Survey.{usedIn, kindOf, slotOfCard, lowestFree, largestTimestamp}
 use Rattle.survey.specs.Laws.{no-card-before, lowest-no-card}
-use Rattle.tree.specs.Slots.{either}
+use Rattle.places.specs.Cases.{either}
 use Rattle.view.specs.Refusal.{otherKind}
 use Rattle.distance.specs.Kind.{knownKind}
 use Rattle.refusals.specs.Limits.{knownArity, lastTimestamp}

@@ -12,12 +12,12 @@ use Rattle.distance.specs.Signature.{Fit}
 use Rattle.distance.specs.Kind.{apart, apart-distance, known-between}
 use Rattle.table.specs.Record.{Record, Used, free, slot, noSlot}
 use Rattle.table.specs.Table.{at}
-use Rattle.table.specs.Cases.{below-or}
+use Rattle.places.specs.Cases.{below-or, either}
 use Rattle.table.specs.Same.{past-free}
 use Rattle.table.specs.RoundTrip.{Fitting, FittingRow, record-fits}
 use Rattle.survey.specs.Survey.{usedIn, largestTimestamp}
 use Rattle.survey.specs.Laws.{largest-late}
-use Rattle.tree.specs.Slots.{either, ∈-decide}
+use Rattle.tree.specs.Slots.{∈-decide}
 use Rattle.view.specs.Formed.{free-or-used}
 use Rattle.view.specs.Place.{Newcomer, Placed, fresh, asRoot, placed}
 use Rattle.view.specs.Place.Settled.{Ready, Settled, settled-largest}

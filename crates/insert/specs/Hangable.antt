@@ -13,7 +13,7 @@ use Rattle.table.specs.Records.{records-length}
 use Rattle.judge.specs.WellFormed.{WellFormed}
 use Rattle.survey.specs.Survey.{usedIn, rootOf}
 use Rattle.survey.specs.Laws.{usedIn-most}
-use Rattle.tree.specs.Slots.{either}
+use Rattle.places.specs.Cases.{either}
 use Rattle.tree.specs.Insert.{path, last, attach}
 use Rattle.tree.specs.Insert.Path.{attach-∈}
 use Rattle.tree.specs.Insert.Same.{path-same, path-in}

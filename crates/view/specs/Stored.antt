@@ -9,7 +9,7 @@ use native.Mathlib.Decide.{ℕ-discrete}
 use Rattle.table.specs.Record.{Record, Used}
 use Rattle.table.specs.Table.{at}
 use Rattle.survey.specs.Survey.{usedIn}
-use Rattle.tree.specs.Slots.{either}
+use Rattle.places.specs.Cases.{either}
 use Rattle.view.specs.Survey.{usedIn-seen}
 use Rattle.view.specs.Place.{Newcomer}
 use Rattle.view.specs.Place.Settled.{Ready, Settled, settled-new-used}

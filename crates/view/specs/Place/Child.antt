@@ -12,7 +12,8 @@ use Rattle.table.specs.Record.{Record, Used, free}
 use Rattle.table.specs.Table.{at}
 use Rattle.judge.specs.WellFormed.{Filled}
 use Rattle.survey.specs.Survey.{usedIn, rootOf}
-use Rattle.tree.specs.Slots.{_∈_, either}
+use Rattle.tree.specs.Slots.{_∈_}
+use Rattle.places.specs.Cases.{either}
 use Rattle.tree.specs.View.{Formed, Sound, Late, usedCount}
 use Rattle.tree.specs.Insert.{Fresh, Inserted, path, attach}
 use Rattle.tree.specs.Insert.Path.{path-used, attach-used}

@@ -6,7 +6,7 @@ use lib.Dec.{ltb}
 use borrow.Author.Tests.{lt-ltb, le-ltb}
 use Rattle.places.specs.Choice.{pick}
 use Rattle.number.specs.Frame.{Bytes}
-use Rattle.tree.specs.Slots.{either}
+use Rattle.places.specs.Cases.{either}
 use Rattle.insert.proofs.Walking.{Walking, few, walk-on, walk-ends}
 use Rattle.insert.proofs.Walking.{Scanning, scanning, scanning-child, scanning-more}
 use native.Mathlib.Omega.{arith}
