@@ -27,10 +27,9 @@ use Rattle.refusals.specs.Limits.{knownArity, lastTimestamp}
 use Rattle.refusals.specs.Refusal.{done}
 use Rattle.view.specs.Survey.{usedIn-seen, kindOf-is}
 use Rattle.view.specs.Shaped.{Shaped, shaped-bytes}
-use Rattle.view.specs.Place.{Newcomer}
-use Rattle.view.specs.Place.Settled.{Ready}
+use Rattle.newcomer.specs.Newcomer.{Newcomer, newcomer}
+use Rattle.placing.specs.Place.Settled.{Ready}
 use Rattle.insert.specs.Insert.{rightArguments, refusalOf}
-use Rattle.insert.specs.Newcomer.{newcomer}
 use Rattle.insert.specs.Refusals.{earlyOf, refusal-early, refusal-late}
 use Rattle.insert.specs.Refusals.{Early, Late, early-passed, late-passed}
 
