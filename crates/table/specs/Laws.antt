@@ -18,7 +18,7 @@ use Rattle.distance.specs.Signature.{Fit}
 use Rattle.table.specs.Record.{Record, free, recordOf, slotsAt, signatureAt}
 use Rattle.table.specs.Table.{recordsOf, recordsIn, at}
 use Rattle.table.specs.Span.{Alike, alike-within}
-use Rattle.table.specs.Cases.{below-or, equal-or}
+use Rattle.places.specs.Cases.{below-or, equal-or}
 use Rattle.table.specs.Same.{record-alike, readings-alike, slot-at, slots-length, zeros-free}
 use Rattle.table.specs.Records.{records-length, records-in}
 use Rattle.table.specs.Run.{

@@ -5,7 +5,6 @@ pub mod Table
 pub mod Put
 pub mod Clear
 -- Laws: bytes and the records they hold, the right size, what each write does, and back again.
-pub mod Cases
 pub mod Span
 pub mod Same
 pub mod Records

@@ -10,7 +10,7 @@ use Rattle.places.specs.Row.{row-at, row-past, row-length}
 use Rattle.number.specs.Frame.{Bytes}
 use Rattle.table.specs.Record.{Record, free, recordOf}
 use Rattle.table.specs.Table.{recordsOf, recordsIn, at}
-use Rattle.table.specs.Cases.{below-or}
+use Rattle.places.specs.Cases.{below-or}
 use Rattle.table.specs.Same.{alike-record, past-free}
 
 pub records-length : (l : List ℕ) → length (recordsOf l) ≡ recordsIn l

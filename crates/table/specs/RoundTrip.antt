@@ -12,7 +12,7 @@ use Rattle.number.specs.Frame.{Bytes, digits-bytes, number-lt}
 use Rattle.distance.specs.Signature.{Fit, readings-length, readings-fit}
 use Rattle.table.specs.Record.{Record, free, recordOf, slot, slotsAt, signatureAt}
 use Rattle.table.specs.Table.{recordsOf, at, numbers, bytesOfRecord, bytesOf}
-use Rattle.table.specs.Cases.{below-or}
+use Rattle.places.specs.Cases.{below-or}
 use Rattle.table.specs.Span.{Alike, number-alike}
 use Rattle.table.specs.Same.{slot-at, slots-length, reading-of, record-alike}
 use Rattle.table.specs.Records.{records-length, records-in, bytes-same}
