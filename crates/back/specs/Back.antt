@@ -6,8 +6,8 @@ use mathlib.Core.List.{List, [], _∷_, List·Memᴰ·head as first, List·Mem�
 use Rattle.table.specs.Record.{Record}
 use Rattle.table.specs.Table.{at}
 use Rattle.tree.specs.Slots.{_∈_}
-use Rattle.view.specs.Place.{Newcomer, Placed, placed}
-use Rattle.view.specs.Stored.{brought}
+use Rattle.placing.specs.Place.{Placed, placed}
+use Rattle.newcomer.specs.Newcomer.{Newcomer, brought}
 
 -- slot s goes back "by the insert rule", with what its record in `old` brought. The counts add up
 abbrev pub oneBack : (List ℕ → List ℕ → ℕ) → ℕ → List Record → ℕ → Placed → Placed

@@ -13,8 +13,8 @@ use Rattle.table.specs.Table.{at}
 use Rattle.table.specs.RoundTrip.{FittingRow}
 use Rattle.survey.specs.Survey.{largestTimestamp}
 use Rattle.tree.specs.Slots.{_∈_}
-use Rattle.view.specs.Place.{Placed}
-use Rattle.insert.specs.Fits.{placed-fits}
+use Rattle.placing.specs.Place.{Placed}
+use Rattle.placing.specs.RowsFit.{placed-fits}
 use Rattle.back.specs.Back.{oneBack, putBack}
 use Rattle.back.specs.Returnable.{Returnable, returnable-ready, returnable-next, returnable-largest}
 

@@ -15,8 +15,7 @@ use Rattle.tree.specs.Slots.{_∈_, Distinct}
 use Rattle.view.specs.Shaped.{Shaped}
 use Rattle.view.specs.Survey.{kindOf-is}
 use Rattle.view.specs.Formed.{used-within, free-formed}
-use Rattle.view.specs.Place.{Newcomer}
-use Rattle.view.specs.Stored.{brought}
+use Rattle.newcomer.specs.Newcomer.{Newcomer, brought}
 use Rattle.back.specs.Returnable.{Brings, Returnable}
 
 -- the slots ss of the well-formed table `old` wait, and base holds only what `old` held in the same slots

@@ -17,10 +17,10 @@ use Rattle.survey.specs.Survey.{usedIn, largestTimestamp}
 use Rattle.tree.specs.Slots.{_∈_, Distinct}
 use Rattle.view.specs.Shaped.{Shaped}
 use Rattle.view.specs.Sound.{SoundTable}
-use Rattle.view.specs.Place.{Newcomer, placed}
-use Rattle.view.specs.Place.Settled.{Ready, Settled, settled-usedIn, settled-largest, settled-kinds}
-use Rattle.view.specs.Place.Keeps.{placed-length, placed-settled, placed-sound-table}
-use Rattle.view.specs.Stored.{brought}
+use Rattle.placing.specs.Place.{placed}
+use Rattle.newcomer.specs.Newcomer.{Newcomer, brought}
+use Rattle.placing.specs.Place.Settled.{Ready, Settled, settled-usedIn, settled-largest, settled-kinds}
+use Rattle.placing.specs.Place.Keeps.{placed-length, placed-settled, placed-sound-table}
 
 -- the record brings a card, this kind, which is known, and a whole signature
 pub record Brings (kind : ℕ) (r : Record) : Type 0 where

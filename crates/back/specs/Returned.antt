@@ -15,12 +15,14 @@ use Rattle.table.specs.Table.{at}
 use Rattle.judge.specs.WellFormed.{WellFormed}
 use Rattle.survey.specs.Survey.{usedIn, largestTimestamp}
 use Rattle.survey.specs.Laws.{usedIn-most}
-use Rattle.tree.specs.Slots.{_∈_, either, ∈-decide}
+use Rattle.places.specs.Cases.{either}
+use Rattle.tree.specs.Slots.{_∈_, ∈-decide}
 use Rattle.view.specs.Shaped.{Shaped}
 use Rattle.view.specs.Sound.{SoundTable}
-use Rattle.view.specs.Place.{Newcomer, Placed, placed}
-use Rattle.view.specs.Place.Keeps.{placed-settled}
-use Rattle.view.specs.Stored.{Stored, brought, brought-is}
+use Rattle.placing.specs.Place.{Placed, placed}
+use Rattle.newcomer.specs.Newcomer.{Newcomer, brought, brought-is}
+use Rattle.placing.specs.Place.Keeps.{placed-settled}
+use Rattle.placing.specs.Stored.{Stored}
 use Rattle.back.specs.Back.{oneBack, putBack}
 use Rattle.back.specs.Returnable.{
   Returnable,

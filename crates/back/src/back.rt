@@ -6,8 +6,8 @@ ghost use Rattle.places.specs.Choice.{pick};
 ghost use Rattle.distance.specs.Kind.{apart};
 ghost use Rattle.table.specs.Stands.{Stands};
 ghost use Rattle.table.specs.Table.{recordsOf, at};
-ghost use Rattle.view.specs.Stored.{brought};
-ghost use Rattle.insert.specs.Hang.{Hangable, leaves};
+ghost use Rattle.newcomer.specs.Newcomer.{brought};
+ghost use Rattle.placing.specs.Hang.{Hangable, leaves};
 ghost use Rattle.back.specs.Age.{slotIn};
 ghost use Rattle.back.specs.Loop.Puts.{puts};
 ghost use Rattle.back.specs.Loop.Pending.{Pending, restBack};
@@ -36,10 +36,10 @@ fn put_one(
         ≡ puts (apart kind) arity s (brought (at (recordsOf (now (t .entry))) s)) (recordsOf (now (t .entry))) depth root timestamp ⌝ }
 {
     if depth == 0 {
-        insert::seat(t, s, timestamp, NO_SLOT);
+        newcomer::seat(t, s, timestamp, NO_SLOT);
         return 0;
     }
-    insert::hang(t, s, kind, arity, root, depth, timestamp)
+    placing::hang(t, s, kind, arity, root, depth, timestamp)
 }
 
 // The slots in these keys wait: they hold what they held, but `depth` other records alone are in the tree below `root`,

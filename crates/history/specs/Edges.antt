@@ -33,7 +33,10 @@ use Rattle.placing.specs.Place.{placed, asRoot, hanging, hangingFrom, raisedAlo
 use Rattle.newcomer.specs.Newcomer.{Newcomer, raised, adopting, fresh}
 use Rattle.insert.specs.Insert.{rightArguments}
 use Rattle.search.specs.Search.{entered, cards, distances}
-use Rattle.delete.specs.Delete.{deleted, putBack, waiting, leaving, removed, freedAt, unhung, disowning, clockWouldPass}
+use Rattle.view.specs.Freed.{freedAt}
+use Rattle.removal.specs.Removal.{leaving, removed, unhung, disowning}
+use Rattle.back.specs.Back.{putBack}
+use Rattle.delete.specs.Delete.{deleted, waiting, clockWouldPass}
 use Rattle.soundness.specs.Soundness.{isSound, allCovered, allNear, allIn, checkOf}
 use Rattle.history.specs.History.{Call, insert, delete, search, check, Typed, AllTyped, Line, line, cleared}
 use Rattle.history.specs.History.{without, run, reportOf, reports}

@@ -1,11 +1,11 @@
 -- Loop: a turn on lent bytes. What the loop that puts back asks of them (`Pending`), how a turn leaves them
 -- (`pending-next`), and what is left to do (`restBack`). Assumes nothing.
-use Prim.Native.Nat.{ℕ, _+_, _*_, _≤_, _<_}
+use Prim.Native.Nat.{ℕ, _+_, _*_, _-_, _≤_, _<_}
 use mathlib.Core.Path.{_≡_, refl, sym, ap, _∙_}
-use mathlib.Core.List.{List, [], _∷_, List·Memᴰ·head as first}
+use mathlib.Core.List.{List, [], _∷_, map, List·Memᴰ·head as first}
 use native.Mathlib.Omega.{arith}
 use lib.Dec.{eqb}
-use lib.ListN.{length}
+use lib.ListN.{length, length-map}
 use Rattle.places.specs.Choice.{pick}
 use Rattle.distance.specs.Kind.{apart}
 use Rattle.refusals.specs.Limits.{mostRecords, mostChildren, lastTimestamp}
@@ -26,12 +26,13 @@ use Rattle.table.specs.Stands.{
 use Rattle.survey.specs.Survey.{usedIn, rootOf}
 use Rattle.survey.specs.Laws.{usedIn-most}
 use Rattle.tree.specs.Slots.{_∈_, ∈-decide}
-use Rattle.view.specs.Place.{Placed}
-use Rattle.view.specs.Stored.{brought}
-use Rattle.insert.specs.Hang.{Hangable, leaves}
-use Rattle.insert.specs.Hangable.{hangable}
+use Rattle.placing.specs.Place.{Placed}
+use Rattle.newcomer.specs.Newcomer.{brought}
+use Rattle.placing.specs.Hang.{Hangable, leaves}
+use Rattle.placing.specs.Hangable.{hangable}
+use Rattle.back.specs.Age.{slotIn}
 use Rattle.back.specs.Back.{putBack, putBack-same}
-use Rattle.back.specs.Freed.{freedAt, freed-none, freed-out}
+use Rattle.view.specs.Freed.{freedAt, freed-none, freed-out}
 use Rattle.back.specs.Returned.{returnable-few}
 use Rattle.back.specs.Loop.Puts.{puts, waiting-agree, waiting-unlinked}
 use Rattle.back.specs.Loop.Turn.{Linked, formed-linked, Turn, turn-few, turn-next, turn-rest}
@@ -41,6 +42,21 @@ pub record Pending (l : List ℕ) (ss : List ℕ) (kind arity root depth last : 
   pub whole : WholeRecords l
   pub to-8 : arity ≤ mostChildren
   pub turn : Turn (recordsIn l) kind ss (recordsOf l) root depth last
+
+-- the count so far fits four bytes, with as many as a table has records for each of the k that wait
+abbrev pub CountFits : ℕ → ℕ → Type 0
+CountFits count k = count + mostRecords * k ≤ mostRecords * mostRecords
+
+pub count-start : (k : ℕ) → k ≤ mostRecords → CountFits 0 (k - 0)
+count-start k h = omega arith
+
+pub count-room : (count k i more : ℕ) → CountFits count (k - i) → i < k → more ≤ mostRecords
+    → count + more ≤ mostRecords * mostRecords
+count-room count k i more h b m = omega arith
+
+pub count-more : (count k i more : ℕ) → CountFits count (k - i) → i < k → more ≤ mostRecords
+    → CountFits (count + more) (k - (i + 1))
+count-more count k i more h b m = omega arith
 
 -- what the rule has left to do: the slots ss go back, with what they hold, over the records in which they are free
 abbrev pub restBack : ℕ → ℕ → List ℕ → List ℕ → ℕ → Placed
@@ -91,6 +107,11 @@ module _ {l : List ℕ} {ss : List ℕ} {kind arity root depth last : ℕ}
         few = λ a _. linked a .few;
         stand = λ a i _ b. stands-in l _ (linked a .inside i b);
       }
+
+-- the slots in these keys wait: there are no more keys than a table has records
+pub pending-keys-few : {l : List ℕ} (keys : List ℕ) {kind arity root depth last : ℕ}
+    → Pending l (map slotIn keys) kind arity root depth last → length keys ≤ mostRecords
+pending-keys-few keys now = omega (arith, pending-waits-few now, length-map keys slotIn)
 
 -- ---- the next that goes back
 

@@ -14,7 +14,7 @@ use Rattle.places.specs.Choice.{pick}
 use Rattle.refusals.specs.Limits.{mostChildren}
 use Rattle.table.specs.Record.{Record, Used, free, recordOf, noSlot}
 use Rattle.table.specs.Table.{recordsOf, at}
-use Rattle.table.specs.Stands.{Stands}
+use Rattle.table.specs.Stands.{Stands, in-stands}
 use Rattle.table.specs.Laws.{Became, records-with}
 use Rattle.survey.specs.Survey.{usedIn, rootOf, largestTimestamp}
 use Rattle.survey.specs.Laws.{usedIn-most}
@@ -25,13 +25,13 @@ use Rattle.tree.specs.Insert.Path.{path-count, attach-∈}
 use Rattle.view.specs.View.{viewOf}
 use Rattle.view.specs.Survey.{usedIn-usedCount}
 use Rattle.view.specs.Formed.{formed-view}
-use Rattle.view.specs.Place.{Newcomer, Placed, fresh, raisedAlong, adopting, asRoot, hangingFrom, hanging, placed}
-use Rattle.view.specs.Place.Agree.{Agree, Unlinked, walked, stays, hanging-agree, hanging-count}
-use Rattle.view.specs.Place.Row.{along-other}
-use Rattle.view.specs.Place.Hanging.{after-length}
-use Rattle.view.specs.Place.Keeps.{placed-length, placed-settled}
-use Rattle.view.specs.Stored.{brought}
-use Rattle.back.specs.Freed.{freedAt, freed-length, freed-in, freed-out}
+use Rattle.placing.specs.Place.{Placed, raisedAlong, asRoot, hangingFrom, hanging, placed}
+use Rattle.newcomer.specs.Newcomer.{Newcomer, fresh, adopting, brought}
+use Rattle.placing.specs.Place.Agree.{Agree, Unlinked, walked, stays, hanging-agree, hanging-count}
+use Rattle.placing.specs.Place.Row.{along-other}
+use Rattle.placing.specs.Place.Hanging.{after-length}
+use Rattle.placing.specs.Place.Keeps.{placed-length, placed-settled}
+use Rattle.view.specs.Freed.{freedAt, freed-length, freed-in, freed-out}
 use Rattle.back.specs.Returnable.{Returnable, returnable-ready}
 
 -- ---- the rule, told the depth, the root and the timestamp
@@ -71,7 +71,7 @@ pub puts-seat :
 unfolding asRoot
 puts-seat d arity s l m depth root t h e b =
     ap (λ (rows : List Record). seated rows)
-    (records-with (λ r. fresh (brought r) t noSlot) b h)
+    (records-with (λ r. fresh (brought r) t noSlot) b (in-stands l s h))
     ∙ sym (puts-root d arity s (brought (at (recordsOf l) s)) (recordsOf l) depth root t e)
   where
     seated : List Record → Placed

@@ -15,15 +15,16 @@ use Rattle.table.specs.Record.{Record, Used, slot}
 use Rattle.table.specs.Table.{at}
 use Rattle.judge.specs.WellFormed.{WellFormed}
 use Rattle.survey.specs.Survey.{usedIn, rootOf, largestTimestamp}
-use Rattle.tree.specs.Slots.{_∈_, either}
+use Rattle.places.specs.Cases.{either}
+use Rattle.tree.specs.Slots.{_∈_}
 use Rattle.view.specs.Shaped.{Shaped}
 use Rattle.view.specs.Survey.{rootOf-is}
 use Rattle.view.specs.Formed.{free-or-used}
-use Rattle.view.specs.Place.{Newcomer, Placed, placed}
-use Rattle.view.specs.Place.Keeps.{placed-settled, placed-alone}
-use Rattle.view.specs.Stored.{brought}
+use Rattle.placing.specs.Place.{Placed, placed}
+use Rattle.newcomer.specs.Newcomer.{Newcomer, brought}
+use Rattle.placing.specs.Place.Keeps.{placed-settled, placed-alone}
 use Rattle.back.specs.Back.{oneBack, putBack, putBack-same}
-use Rattle.back.specs.Freed.{freedAt}
+use Rattle.view.specs.Freed.{freedAt}
 use Rattle.back.specs.Returnable.{
   Returnable,
   returnable-ready,
@@ -144,7 +145,7 @@ module _ {n kind arity s : ℕ} {ss : List ℕ} {C : List Record} {root depth la
       })
       ≡ putBack (apart kind) arity C (s ∷ ss) (record { rows = freedAt (s ∷ ss) C; count = count })
   turn-rest count =
-      let after = record { rows = freedAt ss (step .rows); count = count + step .count } in
+      let after : Placed = record { rows = freedAt ss (step .rows); count = count + step .count } in
       putBack-same d arity C (step .rows) ss after (λ a i. ap (λ (q : Record). brought q) (unmoved a i))
       ∙ ap (putBack d arity C ss) both
       ∙ unfold putBack in refl

@@ -3,7 +3,7 @@ use Prim.Native.Nat.{ℕ, _-_, _≤_, max}
 use mathlib.Core.Path.{_≡_, sym, ap, _∙_}
 use Rattle.table.specs.Record.{recordOf}
 use Rattle.survey.specs.Survey.{largestTimestamp}
-use Rattle.delete.specs.Clock.{unmarked, timestampIn, largest-more, largest-none}
+use Rattle.delete.specs.Loop.Clock.{unmarked, timestampIn, largest-more, largest-none}
 use native.Mathlib.Omega.{arith}
 use borrow.Author.Needs.{needs}
 use Rattle.delete.proofs.clock.largest_staying.Statement.{statement}

@@ -4,7 +4,7 @@ use mathlib.Core.Path.{ap, _∙_}
 use mathlib.Core.List.{List}
 use Rattle.table.specs.Record.{recordOf}
 use Rattle.survey.specs.Survey.{largestTimestamp}
-use Rattle.delete.specs.Clock.{unmarked}
+use Rattle.delete.specs.Loop.Clock.{unmarked}
 use borrow.Author.Needs.{needs}
 use Rattle.delete.proofs.clock.last_staying.Statement.{statement}
 use Rattle.delete.proofs.clock.last_staying.Tie as tie

@@ -3,7 +3,7 @@ use Prim.Native.Nat.{_≤_}
 use mathlib.Core.Path.{_≡_, sym, _∙_}
 use lib.ListN.{getD}
 use Rattle.table.specs.Record.{recordOf}
-use Rattle.delete.specs.Clock.{timestamp-marked, timestamp-open, timestamp-free, timestamp-used}
+use Rattle.delete.specs.Loop.Clock.{timestamp-marked, timestamp-open, timestamp-free, timestamp-used}
 use native.Mathlib.Omega.{arith}
 use borrow.Author.Needs.{needs}
 use Rattle.delete.proofs.clock.staying_timestamp.Statement.{statement}
