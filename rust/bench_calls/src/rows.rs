@@ -4,6 +4,7 @@ use crate::scan::{judge, plain, validated};
 use crate::tables::{Bench, Setting, Share, ITEMS};
 use crate::timing::{changing, medians, reading, Work};
 use model::assemble::{self, Clock, Shape};
+use model::index::Search;
 use model::random::Random;
 use model::record::{parse_table, MOST_RECORDS};
 use model::signature::Flavour;
@@ -82,7 +83,10 @@ fn scans(bench: &Bench, share: Share) -> Scans<'_> {
 fn judging(bench: &Bench) -> Row {
     let (table, query) = (&bench.full, &bench.queries[0]);
     let library = reading(|_| assert_eq!(judge(black_box(table), query), 3));
-    let twin = reading(|_| assert_eq!(twin::search(black_box(table), 0, query, 0, &mut []).refusal, 3));
+    let twin = reading(|_| {
+        let refused = Search { kind: 0, signature: query, radius: 0, list: &mut [] };
+        assert_eq!(twin::search(black_box(table), refused).refusal, 3);
+    });
     scans(bench, Share::OneIn(100)).row("judging alone", library, twin)
 }
 
@@ -146,7 +150,7 @@ fn search(bench: &Bench, call: &'static str, share: Share) -> Row {
     };
     let twins = |item: usize, list: &mut [u32]| {
         let (query, radius) = query(item);
-        let answer = twin::search(black_box(scans.table), kind, query, radius, list);
+        let answer = twin::search(black_box(scans.table), Search { kind, signature: query, radius, list });
         (answer.count, answer.found)
     };
     let (mut one, mut other) = (vec![0; bench.setting.records], vec![0; bench.setting.records]);
@@ -188,7 +192,10 @@ pub fn measure_chain(print: &mut dyn FnMut(Row)) {
             assert_eq!(library::search(table, kind, query, u32::MAX, &mut one, &mut count, &mut found), 0);
             assert_eq!((count, found), (1024, 1024));
         });
-        let twin = reading(|_| twin::search(black_box(table), kind, query, u32::MAX, &mut other));
+        let twin = reading(|_| {
+            let everything = Search { kind, signature: query, radius: u32::MAX, list: &mut other };
+            twin::search(black_box(table), everything)
+        });
         print(everything.row("chain: search, all found", library, twin));
         print(delete(&bench, "chain: delete, the root, arity 1", &[bench.root()]));
         let library = reading(|_| assert_eq!(library::check(black_box(table)), 0));

@@ -5,7 +5,7 @@ mod drawn;
 
 pub use drawn::{any_history, full_table, grown_table, history, Manner};
 
-use crate::index::{Answer, Index};
+use crate::index::{Answer, Index, Search};
 use crate::record::RECORD;
 use std::fmt;
 
@@ -52,7 +52,7 @@ impl Command {
             }
             Command::Delete { card, arity } => Some(index.delete(table, *card, *arity)),
             Command::Search { kind, signature, radius, .. } => {
-                Some(index.search(table, *kind, signature, *radius, list))
+                Some(index.search(table, Search { kind: *kind, signature, radius: *radius, list }))
             }
             Command::Check => Some(index.check(table)),
             Command::Turn { at, bits } => {

@@ -3,10 +3,15 @@
 use crate::{after_line_6, done, reading, refused, search};
 use model::calls::Model;
 use model::distance::{FAULT_BITS, READINGS};
-use model::index::Index;
+use model::index::{Answer, Index, Search};
 use model::judge::{judge, Verdict};
 use model::record::{parse_table, Record, RECORD};
 use model::refusal::{ARGUMENT, CLOCK, DONE, FULL, KIND, SHORT, SIZE, TABLE, TWICE};
+
+/// A search with radius 0.
+fn same(table: &[u8], kind: u8, signature: &[u8], list: &mut [u32]) -> Answer {
+    Model.search(table, Search { kind, signature, radius: 0, list })
+}
 
 #[test]
 fn edge_lengths() {
@@ -17,7 +22,7 @@ fn edge_lengths() {
         assert_eq!(Model.clear(&mut table), refused(SIZE));
         assert_eq!(Model.insert(&mut table, 0, 0, &[], 0), refused(SIZE));
         assert_eq!(Model.delete(&mut table, 0, 0), refused(SIZE));
-        assert_eq!(Model.search(&table, 0, &[], 0, &mut list), refused(SIZE));
+        assert_eq!(same(&table, 0, &[], &mut list), refused(SIZE));
         assert_eq!(Model.check(&table), refused(SIZE));
         assert_eq!((list, table), ([7; 4], vec![0; length]));
     }
@@ -118,7 +123,7 @@ fn edge_refusals_in_their_order() {
     bad[15] = 3;
     assert_eq!(Model.insert(&mut bad, 0, 0, &[], 0), refused(TABLE));
     assert_eq!(Model.delete(&mut bad, 0, 0), refused(TABLE));
-    assert_eq!(Model.search(&bad, 0, &[], 0, &mut list), refused(TABLE));
+    assert_eq!(same(&bad, 0, &[], &mut list), refused(TABLE));
     assert_eq!(Model.check(&bad), refused(TABLE));
     // ARGUMENT before KIND, TWICE, ABSENT and SHORT.
     let mut table = after_line_6();
@@ -126,21 +131,22 @@ fn edge_refusals_in_their_order() {
     assert_eq!(Model.insert(&mut table, 11, FAULT_BITS, &[0; 31], 2), refused(ARGUMENT));
     assert_eq!(Model.insert(&mut table, 11, 3, &reading(1), 2), refused(ARGUMENT));
     assert_eq!(Model.delete(&mut table, 0, 2), refused(ARGUMENT));
-    assert_eq!(Model.search(&table, FAULT_BITS, &[0; 33], 0, &mut []), refused(ARGUMENT));
-    assert_eq!(Model.search(&table, 0, &reading(1), 0, &mut []), refused(ARGUMENT));
+    assert_eq!(same(&table, FAULT_BITS, &[0; 33], &mut []), refused(ARGUMENT));
+    assert_eq!(same(&table, 0, &reading(1), &mut []), refused(ARGUMENT));
     // KIND before TWICE, FULL, CLOCK and SHORT.
     assert_eq!(Model.insert(&mut table, 11, FAULT_BITS, &reading(1), 2), refused(KIND));
-    assert_eq!(Model.search(&table, FAULT_BITS, &reading(1), 0, &mut []), refused(KIND));
+    assert_eq!(same(&table, FAULT_BITS, &reading(1), &mut []), refused(KIND));
     // FULL before CLOCK.
     let mut full = table[..6 * RECORD].to_vec();
     full[5 * RECORD + 4..5 * RECORD + 8].copy_from_slice(&u32::MAX.to_le_bytes());
     assert_eq!(Model.insert(&mut full, 17, READINGS, &reading(1), 2), refused(FULL));
     // SHORT by the used records, not by what is found; a longer list keeps its later entries.
-    assert_eq!(Model.search(&table, READINGS, &reading(40), 0, &mut [0; 5]), refused(SHORT));
-    assert_eq!(Model.search(&table, READINGS, &reading(40), 0, &mut list[..6]), done(4, 1));
+    assert_eq!(same(&table, READINGS, &reading(40), &mut [0; 5]), refused(SHORT));
+    assert_eq!(same(&table, READINGS, &reading(40), &mut list[..6]), done(4, 1));
     assert_eq!(list, [15, 5, 5, 5, 5, 5, 5, 5]);
     // A free table takes either kind and needs no list.
-    assert_eq!(Model.search(&[0; 64], FAULT_BITS, &reading(1), u32::MAX, &mut []), done(0, 0));
+    let everything = Search { kind: FAULT_BITS, signature: &reading(1), radius: u32::MAX, list: &mut [] };
+    assert_eq!(Model.search(&[0; 64], everything), done(0, 0));
 }
 
 #[test]

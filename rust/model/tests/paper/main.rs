@@ -6,7 +6,7 @@ mod listing;
 
 use model::calls::Model;
 use model::distance::{Signature, READINGS};
-use model::index::{Answer, Index};
+use model::index::{Answer, Index, Search};
 use model::record::RECORD;
 use model::refusal::DONE;
 
@@ -30,7 +30,7 @@ fn after_line_6() -> Vec<u8> {
 
 fn search(table: &[u8], value: u16, radius: u32) -> (Answer, Vec<u32>) {
     let mut list = vec![0; table.len() / RECORD];
-    let answer = Model.search(table, READINGS, &reading(value), radius, &mut list);
+    let answer = Model.search(table, Search { kind: READINGS, signature: &reading(value), radius, list: &mut list });
     list.truncate(answer.found as usize);
     (answer, list)
 }
@@ -40,5 +40,5 @@ fn done(count: u32, found: u32) -> Answer {
 }
 
 fn refused(refusal: u32) -> Answer {
-    Answer { refusal, count: 0, found: 0 }
+    Answer::refused(refusal)
 }

@@ -2,6 +2,7 @@
 //! history that shows it. An index without a slip must pass, so the slips alone are what is caught.
 
 mod slipped;
+mod walk;
 
 use model::calls::Model;
 use model::compare::compare;

@@ -1,9 +1,9 @@
-//! The index with one slip.
+//! The index with one slip: its calls, and insert and delete as they slip.
 
+use crate::walk::Walk;
 use crate::Slip;
 use model::calls::Model;
-use model::distance::Signature;
-use model::index::{Answer, Index};
+use model::index::{Answer, Index, Search};
 use model::refusal::{ABSENT, DONE, FULL, TWICE};
 use model::tree::{Node, Tree};
 
@@ -88,46 +88,6 @@ impl Slipped {
         }
         sum
     }
-
-    // ---- search ----
-
-    #[allow(clippy::too_many_arguments)]
-    fn visit(&self, a: &Node, from_a: u64, t: u64, kind: u8, q: &Signature, r: u64, out: &mut (Vec<u32>, u32)) {
-        let mut reach = u64::from(a.radius) + r;
-        if self.has(Slip::SumsWrap) {
-            reach %= 1 << 32;
-        }
-        if u64::from(a.timestamp) >= t || from_a > reach {
-            return;
-        }
-        out.1 += a.children.len() as u32;
-        if from_a <= r {
-            out.0.push(a.card);
-        }
-        let twice = if self.has(Slip::OneRadius) { r } else { 2 * r };
-        let compared: Vec<u64> = a.children.iter().map(|child| child.far(kind, q)).collect();
-        let mut places: Vec<usize> = (0..compared.len()).collect();
-        if self.has(Slip::WalkReversed) {
-            places.reverse();
-        }
-        for place in places {
-            let judges = if self.has(Slip::YoungerInSmallest) { &compared[..] } else { &compared[..place] };
-            let parent = self.has(Slip::ParentAmongCandidates).then_some(from_a);
-            let smallest = judges.iter().copied().chain(parent).min();
-            if smallest.is_some_and(|smallest| compared[place] > smallest + twice) {
-                continue;
-            }
-            let nearer = (place + 1..compared.len()).filter(|c| compared[place] > compared[*c] + twice);
-            let mut younger = nearer.map(|c| u64::from(a.children[c].timestamp));
-            let bound = match self.0 {
-                Slip::NoBound => u64::MAX,
-                Slip::BoundDropped => younger.min().unwrap_or(u64::MAX),
-                Slip::BoundNotSmallest => younger.next_back().unwrap_or(u64::MAX).min(t),
-                _ => younger.min().unwrap_or(u64::MAX).min(t),
-            };
-            self.visit(&a.children[place], compared[place], bound, kind, q, r, out);
-        }
-    }
 }
 
 impl Index for Slipped {
@@ -137,7 +97,7 @@ impl Index for Slipped {
 
     fn insert(&mut self, table: &mut [u8], card: u32, kind: u8, signature: &[u8], arity: u8) -> Answer {
         if self.has(Slip::RefusesAll) {
-            return Answer { refusal: FULL, count: 0, found: 0 };
+            return Answer::refused(FULL);
         }
         let mut after = table.to_vec();
         let mut answer = Model.insert(&mut after, card, kind, signature, arity);
@@ -175,30 +135,31 @@ impl Index for Slipped {
         }
         let mut tree = Tree::of(table);
         if self.has(Slip::FoundByWalking) && !Slipped::walked_upon(&tree, card) {
-            return Answer { refusal: ABSENT, count: 0, found: 0 };
+            return Answer::refused(ABSENT);
         }
         answer.count = self.delete_done(&mut tree, card, usize::from(arity));
         table.copy_from_slice(&tree.bytes());
         answer
     }
 
-    fn search(&mut self, table: &[u8], kind: u8, signature: &[u8], radius: u32, list: &mut [u32]) -> Answer {
-        let mut answer = Model.search(table, kind, signature, radius, &mut list.to_vec());
+    fn search(&mut self, table: &[u8], lent: Search) -> Answer {
+        let mut answer = Model.search(table, Search { list: &mut lent.list.to_vec(), ..lent });
         if answer.refusal != DONE {
             return answer;
         }
-        let (tree, query) = (Tree::of(table), signature.try_into().unwrap());
-        let mut out = (Vec::new(), 0);
+        let (tree, query) = (Tree::of(table), lent.signature.try_into().unwrap());
+        let mut walk =
+            Walk { slip: self.0, kind: lent.kind, query, r: u64::from(lent.radius), listed: vec![], count: 0 };
         if let Some(root) = &tree.root {
-            out.1 = 1;
-            self.visit(root, root.far(kind, query), u64::MAX, kind, query, u64::from(radius), &mut out);
+            walk.count = 1;
+            walk.visit(root, root.far(lent.kind, query), u64::MAX);
         }
         if self.has(Slip::LaterEntriesZeroed) {
-            list.fill(0);
+            lent.list.fill(0);
         }
-        list[..out.0.len()].copy_from_slice(&out.0);
-        answer.found = out.0.len() as u32;
-        answer.count = if self.has(Slip::CountListed) { answer.found } else { out.1 };
+        lent.list[..walk.listed.len()].copy_from_slice(&walk.listed);
+        answer.found = walk.listed.len() as u32;
+        answer.count = if self.has(Slip::CountListed) { answer.found } else { walk.count };
         answer
     }
 
