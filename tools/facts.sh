@@ -28,7 +28,9 @@ messages() { # LOG
             # two sides that are not equal, or a statement given where another is asked for
             if (head ~ /^`rw`: no occurrence of the path.s left endpoint in the goal/) return "fact"
             if (m ~ /`rw` has no last argument, so what it leaves must be a path whose two ends are/) return "fact"
-            if (bare ~ /^(as printed|computed as far as they go), the two types /) return "fact"
+            if (bare ~ /^(as printed|computed as far as they go|compared part by part), the two (types|values) /) \
+                return "fact"
+            if (bare ~ /^antt met a limit while it made the two (types|values) ready to print/) return "fact"
             if (m ~ /^expected type `.*but this has type `/) return "fact"
             if (bare ~ /^_/ && m ~ / does not hold \(this comparison/) return "fact"
             return "unknown"
