@@ -26,6 +26,7 @@ messages() { # LOG
             if (head ~ /^`search`: no proof of `/) return "fact"
             if (head ~ /^`omega`: / && bare ~ /does not follow from what it read/) return "fact"
             # two sides that are not equal, or a statement given where another is asked for
+            if (head ~ /^`cc`: the equations do not join /) return "fact"
             if (head ~ /^`rw`: no occurrence of the path.s left endpoint in the goal/) return "fact"
             if (m ~ /`rw` has no last argument, so what it leaves must be a path whose two ends are/) return "fact"
             if (bare ~ /^(as printed|computed as far as they go|compared part by part), the two (types|values) /) \
