@@ -13,3 +13,4 @@ pub mod Stands
 pub mod Run
 pub mod Laws
 pub mod RoundTrip
+pub mod Whole
