@@ -1,6 +1,6 @@
--- The cells after the first n keys were seated: each of these keys is found again, and nothing else stands there.
--- So a key that takes an empty cell is new, and one that is met was there before. This holds whatever cells a key
--- looks at: place k d is the one that key k looks at after d others. Assumes nothing.
+-- Loop: The cells after the first n keys were seated: each of these keys is found again, and nothing else stands
+-- there. So a key that takes an empty cell is new, and one that is met was there before. This holds whatever cells a
+-- key looks at: place k d is the one that key k looks at after d others. Assumes nothing.
 use Prim.Native.Nat.{ℕ, zero, suc, _+_, _≤_, _<_}
 use mathlib.Core.Path.{_≡_, refl, sym, ap, _∙_}
 use mathlib.Core.Bool.{Bool, true, false}

@@ -1,6 +1,6 @@
--- The children's turn as a loop takes it: the smallest distance so far in one number, which starts from a value `top`
--- that no distance exceeds, and the bound so far in another. It is the paper's turn (`visitFrom-is`): the start value
--- reads as "the first child always", since every distance is at most `top`. Assumes nothing.
+-- Loop: The children's turn as a loop takes it: the smallest distance so far in one number, which starts from a value
+-- `top` that no distance exceeds, and the bound so far in another. It is the paper's turn (`visitFrom-is`): the start
+-- value reads as "the first child always", since every distance is at most `top`. Assumes nothing.
 use Prim.Native.Nat.{ℕ, suc, zero, _+_, _*_, _≤_, min}
 use mathlib.Core.Bool.{Bool, true, false, _&&_, cond}
 use mathlib.Core.Path.{_≡_, refl, ap, _∙_}
