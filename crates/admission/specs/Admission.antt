@@ -13,7 +13,7 @@ use Rattle.refusals.specs.First.{anyHolds, first-none}
 use Rattle.table.specs.Record.{Record, recordOf}
 use Rattle.table.specs.Table.{rightSize, recordsIn}
 use Rattle.table.specs.Stands.{right-are}
-use Rattle.table.specs.Same.{past-free}
+use Rattle.table.specs.Same.{past-are}
 use Rattle.judge.specs.WellFormed.{wellFormed}
 use Rattle.survey.specs.declared.Findings.{Findings}
 use Rattle.survey.specs.Answers.{Answers, found}
@@ -57,9 +57,7 @@ admitted-readable l e =
 
 -- slot n of n records stands past the last, and has kind 0
 pub past-kind : (l : List ℕ) → rightSize (length l) ≡ true → recordOf l (recordsIn l) .kind ≡ 0
-past-kind l e =
-    let are = right-are l e in
-    ap (λ (r : Record). r .kind) (past-free l (recordsIn l) (omega arith))
+past-kind l e = ap (λ (r : Record). r .kind) (past-are l (recordsIn l) (recordsIn l) (right-are l e) (omega arith))
 
 pub admits-size :
     (l : List ℕ) (r : Admitted) → rightSize (length l) ≡ false → r .refusal ≡ SIZE → r .found ≡ nothing → Admits l r

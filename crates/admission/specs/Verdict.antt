@@ -11,7 +11,7 @@ use Rattle.places.specs.Choice.{pick, and-left, and-right}
 use Rattle.places.specs.Test.{allTo}
 use Rattle.distinct.specs.Distinct.{distinctTo}
 use Rattle.refusals.specs.Limits.{mostRecords}
-use Rattle.table.specs.Cases.{below-or}
+use Rattle.places.specs.Cases.{below-or}
 use Rattle.table.specs.Record.{Record, Used, used, noSlot}
 use Rattle.judge.specs.WellFormed.{WellFormed, ifAny, isRoot, wellFormed}
 use Rattle.judge.specs.Decided.{formed-decided}

@@ -29,11 +29,11 @@ use Rattle.view.specs.Children.{at-∈}
 use Rattle.view.specs.Survey.{usedIn-usedCount}
 use Rattle.view.specs.Formed.{used-within}
 use Rattle.refusals.specs.Refusal.{CLOCK, done}
-use Rattle.view.specs.Place.{Placed}
+use Rattle.placing.specs.Place.{Placed}
 use Rattle.table.specs.Stands.{Walkable}
 use Rattle.view.specs.Readable.{formed-walkable}
 use Rattle.judge.specs.WellFormed.{WellFormed}
-use Rattle.insert.specs.Insert.{changed}
+use Rattle.placing.specs.Changed.{changed}
 use Rattle.refusals.specs.Outcome.{Outcome, refused}
 use Rattle.refusals.specs.Limits.{lastTimestamp}
 use Rattle.table.specs.RoundTrip.{bytes-back}

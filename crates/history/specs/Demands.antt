@@ -13,8 +13,8 @@ use Rattle.table.specs.Table.{recordsIn}
 use Rattle.judge.specs.WellFormed.{WellFormed}
 use Rattle.tree.specs.Slots.{_∈_, Distinct}
 use Rattle.refusals.specs.Refusal.{Test, firstOf, done}
-use Rattle.view.specs.Place.{Newcomer}
-use Rattle.view.specs.Stored.{Stored}
+use Rattle.newcomer.specs.Newcomer.{Newcomer}
+use Rattle.placing.specs.Stored.{Stored}
 use Rattle.view.specs.Sound.{SoundTable}
 use Rattle.search.specs.Search.{Outcome}
 use Rattle.search.specs.Laws.{comparedSlots}

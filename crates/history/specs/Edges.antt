@@ -29,7 +29,8 @@ use Rattle.tree.specs.Remove.{except}
 use Rattle.tree.specs.Search.{visit, turn, visited, bound, enters, least, listed}
 use Rattle.tree.specs.Insert.{path, last, nearest, onward, hangs}
 use Rattle.view.specs.Refusal.{otherKind}
-use Rattle.view.specs.Place.{Newcomer, placed, asRoot, hanging, hangingFrom, raisedAlong, raised, adopting, fresh}
+use Rattle.placing.specs.Place.{placed, asRoot, hanging, hangingFrom, raisedAlong}
+use Rattle.newcomer.specs.Newcomer.{Newcomer, raised, adopting, fresh}
 use Rattle.insert.specs.Insert.{rightArguments}
 use Rattle.search.specs.Search.{entered, cards, distances}
 use Rattle.delete.specs.Delete.{deleted, putBack, waiting, leaving, removed, freedAt, unhung, disowning, clockWouldPass}

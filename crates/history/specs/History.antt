@@ -10,7 +10,7 @@ use Rattle.number.specs.Frame.{Bytes}
 use Rattle.distance.specs.Signature.{readingsAt}
 use Rattle.table.specs.Clear.{clearOf}
 use Rattle.refusals.specs.Refusal.{done}
-use Rattle.view.specs.Place.{Newcomer}
+use Rattle.newcomer.specs.Newcomer.{Newcomer}
 use Rattle.insert.specs.Insert.{insertOf}
 use Rattle.refusals.specs.Outcome.{Outcome}
 use Rattle.delete.specs.Delete.{deleteOf}

@@ -18,8 +18,8 @@ use Rattle.table.specs.Size.{right-size}
 use Rattle.table.specs.RoundTrip.{FittingRow, row-fits, bytesOf-length, bytesOf-bytes}
 use Rattle.judge.specs.WellFormed.{WellFormed}
 use Rattle.tree.specs.Slots.{Distinct}
-use Rattle.view.specs.Place.{Newcomer}
-use Rattle.view.specs.Stored.{Stored}
+use Rattle.newcomer.specs.Newcomer.{Newcomer}
+use Rattle.placing.specs.Stored.{Stored}
 use Rattle.view.specs.Formed.{free-formed}
 use Rattle.view.specs.Sound.{SoundTable}
 use Rattle.history.specs.History.{State, cleared}

@@ -16,10 +16,11 @@ use Rattle.table.specs.Table.{rightSize, recordsIn, recordsOf, at}
 use Rattle.table.specs.Size.{rows-are}
 use Rattle.table.specs.Clear.{clear-done}
 use Rattle.survey.specs.Survey.{slotOfCard}
-use Rattle.tree.specs.Slots.{_∈_, Distinct, either, image-from, image-to}
+use Rattle.tree.specs.Slots.{_∈_, Distinct, image-from, image-to}
+use Rattle.places.specs.Cases.{either}
 use Rattle.refusals.specs.Refusal.{done}
-use Rattle.view.specs.Place.{Newcomer}
-use Rattle.view.specs.Stored.{Stored, brought-card}
+use Rattle.newcomer.specs.Newcomer.{Newcomer, brought-card}
+use Rattle.placing.specs.Stored.{Stored}
 use Rattle.insert.specs.Insert.{inserted, insertOf}
 use Rattle.insert.specs.Accepted.{comer, accepted-ready}
 use Rattle.insert.specs.Promises as Inserts

@@ -28,8 +28,10 @@ use Rattle.judge.specs.Decided.{formed-decided}
 use Rattle.survey.specs.Survey.{usedIn, slotOfCard, lowestFree, largestTimestamp}
 use Rattle.refusals.specs.Refusal.{TABLE, ARGUMENT, KIND, TWICE, ABSENT, FULL, CLOCK, SHORT, LOOSE, firstOf, done}
 use Rattle.view.specs.Refusal.{otherKind}
-use Rattle.view.specs.Place.{Newcomer, Placed, placed}
-use Rattle.insert.specs.Insert.{changed, inserted, rightArguments}
+use Rattle.placing.specs.Place.{Placed, placed}
+use Rattle.newcomer.specs.Newcomer.{Newcomer}
+use Rattle.insert.specs.Insert.{inserted, rightArguments}
+use Rattle.placing.specs.Changed.{changed}
 use Rattle.refusals.specs.Outcome.{refused}
 use Rattle.insert.specs.Insert as Insert
 use Rattle.insert.specs.Accepted.{comer}

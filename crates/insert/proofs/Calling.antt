@@ -20,14 +20,15 @@ use Rattle.survey.specs.Survey.{slotOfCard}
 use Rattle.survey.specs.Answers.{Answers}
 use Rattle.view.specs.Refusal.{otherKind}
 use Rattle.refusals.specs.Refusal.{done}
-use Rattle.view.specs.Place.{Newcomer, placed}
-use Rattle.insert.specs.Insert.{changed, refusalOf, inserted, insertOf}
+use Rattle.placing.specs.Place.{placed}
+use Rattle.newcomer.specs.Newcomer.{Newcomer, newcomer}
+use Rattle.insert.specs.Insert.{refusalOf, inserted, insertOf}
+use Rattle.placing.specs.Changed.{changed}
 use Rattle.refusals.specs.Outcome.{Outcome, refused}
 use Rattle.insert.specs.Refusals.{lateBy, lateOf}
 use Rattle.insert.specs.Accepted.{comer, accepted-size, accepted-ready, accepted-clock}
-use Rattle.insert.specs.Newcomer.{newcomer}
-use Rattle.insert.specs.Hang.{leaves}
-use Rattle.insert.specs.Placeable.{Placeable}
+use Rattle.placing.specs.Hang.{leaves}
+use Rattle.placing.specs.Placeable.{Placeable}
 
 module _ (l : List ℕ) (card kind arity : ℕ) (s : List ℕ) where
   abbrev n : ℕ

@@ -20,17 +20,16 @@ use Rattle.judge.specs.WellFormed.{WellFormed, wellFormed}
 use Rattle.judge.specs.Decided.{formed-decided}
 use Rattle.survey.specs.Survey.{usedIn, kindOf, slotOfCard, lowestFree, largestTimestamp}
 use Rattle.survey.specs.Laws.{no-card-before, lowest-no-card}
-use Rattle.tree.specs.Slots.{either}
+use Rattle.places.specs.Cases.{either}
 use Rattle.view.specs.Refusal.{otherKind}
 use Rattle.distance.specs.Kind.{knownKind}
 use Rattle.refusals.specs.Limits.{knownArity, lastTimestamp}
 use Rattle.refusals.specs.Refusal.{done}
 use Rattle.view.specs.Survey.{usedIn-seen, kindOf-is}
 use Rattle.view.specs.Shaped.{Shaped, shaped-bytes}
-use Rattle.view.specs.Place.{Newcomer}
-use Rattle.view.specs.Place.Settled.{Ready}
+use Rattle.newcomer.specs.Newcomer.{Newcomer, newcomer}
+use Rattle.placing.specs.Place.Settled.{Ready}
 use Rattle.insert.specs.Insert.{rightArguments, refusalOf}
-use Rattle.insert.specs.Newcomer.{newcomer}
 use Rattle.insert.specs.Refusals.{earlyOf, refusal-early, refusal-late}
 use Rattle.insert.specs.Refusals.{Early, Late, early-passed, late-passed}
 

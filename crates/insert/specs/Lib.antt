@@ -2,11 +2,4 @@
 pub mod Insert
 pub mod Refusals
 pub mod Accepted
-pub mod Newcomer
-pub mod Descent
-pub mod Turn
-pub mod Hang
-pub mod Hangable
-pub mod Placeable
-pub mod Fits
 pub mod Promises

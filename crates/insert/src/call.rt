@@ -3,7 +3,7 @@ ghost use mathlib.Core.Path.{_≡_};
 ghost use Rattle.insert.specs.Insert.{rightArguments, insertOf};
 ghost use Rattle.refusals.specs.Outcome.{Outcome};
 ghost use Rattle.insert.specs.Refusals.{earlyOf, lateBy};
-use super::place::place;
+use placing::place;
 use refusals::ARGUMENT;
 use refusals::CLOCK;
 use refusals::Changed;

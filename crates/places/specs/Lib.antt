@@ -1,4 +1,5 @@
 -- Sums, tests and rows over the first n places, each with the laws that a loop over them uses.
+pub mod Cases
 pub mod Choice
 pub mod Sum
 pub mod Test

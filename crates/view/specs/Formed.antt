@@ -13,7 +13,8 @@ use Rattle.table.specs.Record.{Record, Used, free, slot, noSlot, children}
 use Rattle.refusals.specs.Limits.{mostRecords}
 use Rattle.judge.specs.WellFormed.{WellFormed, Filled, Hung, Owned}
 use Rattle.survey.specs.Survey.{usedIn, rootOf}
-use Rattle.tree.specs.Slots.{_∈_, either}
+use Rattle.tree.specs.Slots.{_∈_}
+use Rattle.places.specs.Cases.{either}
 use Rattle.tree.specs.View.{Rising, Formed}
 use Rattle.tree.specs.View.Shape.{children-distinct}
 use Rattle.view.specs.View.{viewOf}

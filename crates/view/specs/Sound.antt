@@ -10,7 +10,7 @@ use Rattle.distance.specs.Kind.{apart}
 use Rattle.table.specs.Record.{Record, Used}
 use Rattle.judge.specs.WellFormed.{WellFormed}
 use Rattle.survey.specs.Survey.{usedIn, kindOf}
-use Rattle.tree.specs.Slots.{either}
+use Rattle.places.specs.Cases.{either}
 use Rattle.tree.specs.View.{Sound}
 use Rattle.view.specs.View.{viewOf}
 use Rattle.view.specs.Shaped.{Shaped}

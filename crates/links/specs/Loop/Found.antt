@@ -7,7 +7,7 @@ use mathlib.Core.Logic.{_⊎_, inl, inr}
 use native.Mathlib.Omega.{arith}
 use borrow.Author.Count.{below-more}
 use Rattle.places.specs.Choice.{pick}
-use Rattle.table.specs.Cases.{below-or, equal-or}
+use Rattle.places.specs.Cases.{below-or, equal-or}
 use Rattle.survey.specs.Survey.{firstFrom}
 use Rattle.survey.specs.First.{first-is}
 

@@ -8,7 +8,8 @@ use mathlib.Core.List.{List, Memᴰ·append-left}
 use mathlib.Core.List.{List·Memᴰ·not-nil, List·Memᴰ·append-cases, List·Memᴰ·eq-of-singleton}
 use native.Mathlib.Omega.{arith}
 use native.Mathlib.Decide.{ℕ-discrete}
-use Rattle.tree.specs.Slots.{_∈_, either, ∈-decide}
+use Rattle.tree.specs.Slots.{_∈_, ∈-decide}
+use Rattle.places.specs.Cases.{either}
 use Rattle.tree.specs.View.{View, Used, Below, here, down, Formed}
 use Rattle.tree.specs.Insert.{Fresh, Inserted}
 

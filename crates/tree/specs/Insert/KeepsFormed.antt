@@ -7,7 +7,8 @@ use mathlib.Core.List.{List, [], _∷_, _++_, List·Memᴰ·head as first, List�
 use mathlib.Core.List.{List·Memᴰ·not-nil, List·Memᴰ·append-cases, List·Memᴰ·eq-of-singleton}
 use native.Mathlib.Omega.{arith}
 use native.Mathlib.Decide.{ℕ-discrete}
-use Rattle.tree.specs.Slots.{_∈_, either}
+use Rattle.tree.specs.Slots.{_∈_}
+use Rattle.places.specs.Cases.{either}
 use Rattle.tree.specs.View.{View, Used, Rising, Formed}
 use Rattle.tree.specs.View.Shape.{rising-same}
 use Rattle.tree.specs.Insert.{Fresh, Inserted, path, attach}

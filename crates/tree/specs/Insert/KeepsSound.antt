@@ -6,7 +6,8 @@ use mathlib.Core.List.{Memᴰ·cast}
 use native.Mathlib.Omega.{arith}
 use native.Mathlib.Decide.{ℕ-discrete}
 use Rattle.distance.specs.Laws.{Distance}
-use Rattle.tree.specs.Slots.{_∈_, either}
+use Rattle.tree.specs.Slots.{_∈_}
+use Rattle.places.specs.Cases.{either}
 use Rattle.tree.specs.View.{View, Used, away, Below, here, down, Formed, Sound}
 use Rattle.tree.specs.View.Shape.{below-used}
 use Rattle.tree.specs.Insert.{Fresh, Inserted, path, attach}

@@ -11,7 +11,8 @@ use mathlib.Core.List.{Sublistᴰ·slnil, Sublistᴰ·cons-cons, Sublistᴰ·tra
 use native.Mathlib.Omega.{arith}
 use lib.Dec.{ltb}
 use borrow.Author.Tests.{ltb-true, ltb-false}
-use Rattle.tree.specs.Slots.{_∈_, _⊑_, either, keep-from, keep-to, keep-part, flatMap-part, Distinct, distinct-part}
+use Rattle.tree.specs.Slots.{_∈_, _⊑_, keep-from, keep-to, keep-part, flatMap-part, Distinct, distinct-part}
+use Rattle.places.specs.Cases.{either}
 use Rattle.tree.specs.View.{View, Used, away, Rising, Formed, usedCount, distanceCount}
 use Rattle.tree.specs.View.Count.{distanceCount-at-most}
 use Rattle.tree.specs.View.Under.{under, under-distinct}

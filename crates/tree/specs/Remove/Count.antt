@@ -5,7 +5,8 @@ use mathlib.Core.Path.{_≡_}
 use mathlib.Core.List.{List, _++_, Memᴰ·append-left, Memᴰ·append-right, List·Memᴰ·append-cases}
 use native.Mathlib.Omega.{arith}
 use lib.ListN.{length, length-append}
-use Rattle.tree.specs.Slots.{_∈_, either, ∈-decide, Distinct, distinct-append, distinct-length}
+use Rattle.tree.specs.Slots.{_∈_, ∈-decide, Distinct, distinct-append, distinct-length}
+use Rattle.places.specs.Cases.{either}
 use Rattle.tree.specs.View.{View, Used, Formed, usedCount}
 use Rattle.tree.specs.View.Count.{usedSlots, usedSlots-length, usedSlots-from, usedSlots-to, usedSlots-distinct}
 use Rattle.tree.specs.View.Count.{used-at-most}

@@ -15,7 +15,8 @@ use lib.Dec.{leb, ltb}
 use borrow.Author.Tests.{ltb-true, leb-true, lt-ltb, le-leb}
 use Rattle.distance.specs.Laws.{Distance}
 use Rattle.places.specs.Choice.{and-both}
-use Rattle.tree.specs.Slots.{_∈_, either, Distinct, keep, keep-from, keep-to}
+use Rattle.tree.specs.Slots.{_∈_, Distinct, keep, keep-from, keep-to}
+use Rattle.places.specs.Cases.{either}
 use Rattle.tree.specs.View.{View, Used, Late, away, Below, here, down, Rising, Formed, Sound, usedCount}
 use Rattle.tree.specs.View.Shape.{below-younger, below-root, siblings-timestamp}
 use Rattle.tree.specs.View.Under.{used-shallow}
