@@ -17,7 +17,7 @@ use Rattle.table.specs.Size.{whole}
 use Rattle.table.specs.RoundTrip.{bytes-back}
 use Rattle.survey.specs.declared.Findings.{Findings}
 use Rattle.survey.specs.Survey.{slotOfCard}
-use Rattle.survey.specs.Pass.{Answers}
+use Rattle.survey.specs.Answers.{Answers}
 use Rattle.view.specs.Refusal.{otherKind}
 use Rattle.refusals.specs.Refusal.{done}
 use Rattle.placing.specs.Place.{placed}

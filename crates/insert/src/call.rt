@@ -35,7 +35,7 @@ fn early_refusal(t: &[u8], card: u32, kind: u8, arity: u8, signature: &[u8]) -> 
     if !table::right_size(t) {
         return SIZE;
     }
-    if !judge::well_formed(t, t.len() / RECORD) {
+    if !admission::well_formed(t, t.len() / RECORD) {
         return TABLE;
     }
     if right_arguments(card, kind, arity, signature) {

@@ -99,6 +99,20 @@ kinds-before R (suc s) least same a b u =
     go false e earlier (inl q) = absurd (false≢true (sym e ∙ used-decided (R s) .passes (rw q at u)))
     go false e earlier (inr l) = earlier l u
 
+-- where no record is used, there is no kind before s
+pub kind-none : (R : ℕ → Record) (s : ℕ) → ((a : ℕ) → a < s → used (R a) ≡ false) → kindBefore R s ≡ 0
+unfolding kindBefore
+kind-none R zero none = refl
+kind-none R (suc s) none = rw (none s (omega arith)) (kind-none R s (λ a b. none a (omega arith)))
+
+-- in a well-formed table the last kind is the kind of every used record
+pub kind-all :
+    (n : ℕ) (R : ℕ → Record) → WellFormed n R → (a : ℕ) → a < n → Used (R a) → kindBefore R n ≡ R a .kind
+kind-all n R w =
+    kinds-before R n
+    (λ a b u. known-between (R a .kind) (w .filled a b u .kind-known) .0)
+    (λ s b u f. let k = kind-from R s f in k .3 ∙ w .kinds (k .0) s (omega (arith, k .1)) b (k .2) u)
+
 -- ---- timestamps
 
 -- what rises at each step rises over any distance
