@@ -170,6 +170,10 @@ walkable-same {l} {m} long counts slots w =
           (w .stand s i (stands-same m l (sym long) s h) (rw (counts s) at p)));
     }
 
+-- ---- for `search`: what stands, from what stood or stands besides
+
+pub ruleset standing = (stands-below, stands-same, stand-to-same, stands-in, are-stand, stand-all, whole-same, are-same)
+
 -- ---- where the bytes are, for the laws of the table's own bytes
 
 pub stands-place : (l : List ℕ) (s : ℕ) → Stands l s → placeOf s + recordLength ≤ length l
