@@ -6,9 +6,9 @@ use mathlib.Core.Bool.{_&&_}
 use mathlib.Core.List.{List}
 use lib.Dec.{leb}
 use lib.ListN.{getD}
-use Rattle.number.specs.Frame.{Bytes, number-lt}
-use Rattle.table.specs.Record.{recordOf, slot, slotsAt}
-use Rattle.table.specs.Same.{slot-at}
+use Rattle.number.specs.Frame.{Bytes}
+use Rattle.table.specs.Record.{recordOf, slot}
+use Rattle.table.specs.RoundTrip.{record-fits}
 use Rattle.judge.specs.Past.{firstFloors, lastFloors, past-told}
 use native.Mathlib.Omega.{arith}
 use borrow.Author.Needs.{needs}
@@ -16,7 +16,7 @@ use Rattle.judge.proofs.links.past_ok.Statement.{statement}
 use Rattle.judge.proofs.links.past_ok.Tie as tie
 
 slots-fit : (l : List ℕ) (s : ℕ) → Bytes l → (i : ℕ) → i < 8 → slot (recordOf l s) i < 65536
-slots-fit l s h i b = rw (slot-at l s i b) (number-lt 2 l (slotsAt s + 2 * i) h)
+slots-fit l s h i b = record-fits l s h .slots i
 
 mul-some : tie.Need-mul-some
 mul-some c = search needs

@@ -1,5 +1,5 @@
 -- `table::card_of` meets its contract: what is read is that field of the record. Assumes nothing.
-use Rattle.table.specs.Record.{recordOf}
+use Rattle.table.specs.Record.{recordOf, recordAt}
 use borrow.Author.Needs.{needs}
 use Rattle.table.proofs.read.card_of.Statement.{statement}
 use Rattle.table.proofs.read.card_of.Tie as tie
@@ -11,7 +11,7 @@ get-u32-requires : tie.Need-get-u32-requires
 get-u32-requires c κs = search needs
 
 returns : tie.Need-returns
-unfolding recordOf
+unfolding recordOf recordAt
 returns c = search needs
 
 pub card-of-spec : {M : Type 1} → statement M

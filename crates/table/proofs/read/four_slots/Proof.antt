@@ -1,7 +1,7 @@
 -- `table::four_slots` meets its contract: four child slots, two bytes each, are one number of eight. Assumes nothing.
 use mathlib.Core.Path.{sym, _∙_}
 use Rattle.distance.specs.Signature.{word-of-pairs}
-use Rattle.table.specs.Record.{recordOf, slotsAt}
+use Rattle.table.specs.Record.{recordOf, slotsAt, placeOf}
 use Rattle.table.specs.Same.{slot-at}
 use native.Mathlib.Omega.{arith}
 use borrow.Author.Needs.{needs}
@@ -31,7 +31,7 @@ returns c =
     (word-of-pairs
     (recordOf (a .t .now) (a .s) .slots)
     (a .t .now)
-    (slotsAt (a .s))
+    (slotsAt (placeOf (a .s)))
     (a .k)
     (λ i b. slot-at (a .t .now) (a .s) i (omega arith)))
 

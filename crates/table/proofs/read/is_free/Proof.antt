@@ -4,14 +4,16 @@ use mathlib.Core.Path.{_≡_, refl, sym, _∙_}
 use mathlib.Core.Bool.{false≢true}
 use borrow.Author.Count.{below-more}
 use Rattle.number.specs.Number.{numberAt}
-use Rattle.table.specs.Same.{ZeroWords, zero-words-free, free-zero-words}
+use Rattle.table.specs.Record.{placeOf}
+use Rattle.table.specs.Fields.{ZeroWords}
+use Rattle.table.specs.Same.{zero-words-free, free-zero-words}
 use native.Mathlib.Omega.{arith}
 use borrow.Author.Needs.{needs}
 use Rattle.table.proofs.read.is_free.Statement.{statement}
 use Rattle.table.proofs.read.is_free.Tie as tie
 
 abbrev Inv-loop : tie.InvT-loop
-Inv-loop t s k₀ k = (k ≤ 8) × ZeroWords t s k
+Inv-loop t s k₀ k = (k ≤ 8) × ZeroWords t (placeOf s) k
 
 abbrev μ-loop : tie.MeasureT-loop
 μ-loop t s k₀ k = 8 - k
@@ -56,7 +58,7 @@ loop-again c =
     let l = c .before .before .before .loop in
     let a = c .before .before .before .before .before .args in
     let zero-word = sym (c .before .get-u64 .ensures) ∙ c .if1 .left in
-    (omega arith, below-more (λ (k : ℕ). numberAt 8 (a .t .now) (a .s * 64 + 8 * k) ≡ 0) (l .k) (l .inv .1) zero-word)
+    (omega arith, below-more (λ (k : ℕ). numberAt 8 (a .t .now) (placeOf (a .s) + 8 * k) ≡ 0) (l .k) (l .inv .1) zero-word)
 
 returns-2 : tie.Need-returns-2 Inv-loop μ-loop
 returns-2 c =

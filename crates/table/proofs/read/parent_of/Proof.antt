@@ -1,5 +1,5 @@
 -- `table::parent_of` meets its contract: what is read is that field of the record. Assumes nothing.
-use Rattle.table.specs.Record.{recordOf}
+use Rattle.table.specs.Record.{recordOf, recordAt}
 use borrow.Author.Needs.{needs}
 use Rattle.table.proofs.read.parent_of.Statement.{statement}
 use Rattle.table.proofs.read.parent_of.Tie as tie
@@ -14,7 +14,7 @@ get-u16-requires : tie.Need-get-u16-requires
 get-u16-requires c κs = search needs
 
 returns : tie.Need-returns
-unfolding recordOf
+unfolding recordOf recordAt
 returns c = search needs
 
 pub parent-of-spec : {M : Type 1} → statement M

@@ -1,5 +1,5 @@
 -- `table::signature_of` meets its contract: what is read is that field of the record. Assumes nothing.
-use Rattle.table.specs.Record.{recordOf}
+use Rattle.table.specs.Record.{recordOf, recordAt}
 use borrow.Author.Needs.{needs}
 use Rattle.table.proofs.read.signature_of.Statement.{statement}
 use Rattle.table.proofs.read.signature_of.Tie as tie
@@ -14,7 +14,7 @@ signature-at-requires : tie.Need-signature-at-requires
 signature-at-requires c κs = search needs
 
 returns : tie.Need-returns
-unfolding recordOf
+unfolding recordOf recordAt
 returns c = search needs
 
 pub signature-of-spec : {M : Type 1} → statement M

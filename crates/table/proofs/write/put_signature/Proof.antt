@@ -2,7 +2,7 @@
 use Prim.Native.Nat.{_≤_, _-_}
 use mathlib.Core.Path.{_≡_, refl, _∙_}
 use lib.ListN.{length}
-use Rattle.table.specs.Record.{signatureAt}
+use Rattle.table.specs.Record.{signatureAt, placeOf}
 use Rattle.table.specs.Put.{putReadings, putSignature}
 use Rattle.table.specs.Run.{readings-more}
 use native.Mathlib.Omega.{arith}
@@ -11,7 +11,7 @@ use Rattle.table.proofs.write.put_signature.Statement.{statement}
 use Rattle.table.proofs.write.put_signature.Tie as tie
 
 abbrev Inv-loop : tie.InvT-loop
-Inv-loop t₀ s v k₀ t k = (k ≤ 16) × (length t ≡ length t₀) × (t ≡ putReadings k t₀ (signatureAt s) (v .readings))
+Inv-loop t₀ s v k₀ t k = (k ≤ 16) × (length t ≡ length t₀) × (t ≡ putReadings k t₀ (signatureAt (placeOf s)) (v .readings))
 
 abbrev μ-loop : tie.MeasureT-loop
 μ-loop t₀ s v k₀ t k = 16 - k
@@ -54,7 +54,7 @@ loop-again c =
       omega arith,
       search needs,
       c .before .before .put-u16 .ensures
-          ∙ readings-more (a .t .now) (signatureAt (a .s)) (a .t3 .readings) (l .k) (l .t) _ (l .inv .2) refl,
+          ∙ readings-more (a .t .now) (signatureAt (placeOf (a .s))) (a .t3 .readings) (l .k) (l .t) _ (l .inv .2) refl,
     )
 
 same-length : tie.Need-same-length Inv-loop μ-loop
