@@ -32,6 +32,7 @@ use refusals::refused;
 
 // The largest timestamp, as wide as the sum that is held against it.
 const LAST: u64 = TIMESTAMP as u64;
+
 use table::RECORD;
 
 // The card in slot v leaves a well-formed table of n records, unless a fresh timestamp would pass the last.
@@ -80,7 +81,7 @@ fn early_refusal(t: &[u8], card: u32, arity: u8) -> u8
     if !table::right_size(t) {
         return SIZE;
     }
-    if !judge::well_formed(t, t.len() / RECORD) {
+    if !admission::well_formed(t, t.len() / RECORD) {
         return TABLE;
     }
     if right_arguments(card, arity) {

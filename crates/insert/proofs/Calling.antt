@@ -15,7 +15,7 @@ use Rattle.table.specs.Table.{recordsIn, recordsOf}
 use Rattle.table.specs.Stands.{are-whole, right-are, whole-same}
 use Rattle.table.specs.RoundTrip.{bytes-back}
 use Rattle.survey.specs.declared.Findings.{Findings}
-use Rattle.survey.specs.Pass.{Answers}
+use Rattle.survey.specs.Answers.{Answers}
 use Rattle.refusals.specs.Refusal.{done}
 use Rattle.placing.specs.Place.{placed}
 use Rattle.newcomer.specs.Newcomer.{Newcomer, newcomer}

@@ -11,7 +11,7 @@ use Rattle.table.specs.Record.{recordOf}
 use Rattle.table.specs.Table.{recordsIn}
 use Rattle.survey.specs.declared.Findings.{Findings}
 use Rattle.survey.specs.Survey.{slotOfCard, lowestFree, largestTimestamp}
-use Rattle.survey.specs.Pass.{Answers}
+use Rattle.survey.specs.Answers.{Answers}
 use Rattle.refusals.specs.Refusal.{Test, firstOf, done, ARGUMENT, KIND, TWICE, FULL, CLOCK}
 use Rattle.refusals.specs.First.{first-append}
 use Rattle.refusals.specs.Limits.{lastTimestamp}

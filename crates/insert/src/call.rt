@@ -5,7 +5,7 @@ ghost use Rattle.refusals.specs.Outcome.{Outcome};
 ghost use Rattle.table.specs.Record.{recordOf};
 ghost use Rattle.table.specs.Stands.{AreRecords};
 ghost use Rattle.table.specs.Table.{recordsIn};
-ghost use Rattle.survey.specs.Pass.{Answers};
+ghost use Rattle.survey.specs.Answers.{Answers};
 ghost use Rattle.insert.specs.Insert.{rightArguments, insertOf};
 ghost use Rattle.insert.specs.Groups.{heldBy, ownTests};
 use placing::place;

@@ -18,7 +18,7 @@ use Rattle.table.specs.Laws.{Became, became-then}
 use Rattle.judge.specs.WellFormed.{WellFormed}
 use Rattle.survey.specs.declared.Findings.{Findings}
 use Rattle.survey.specs.Survey.{usedIn, rootOf}
-use Rattle.survey.specs.Pass.{Answers}
+use Rattle.survey.specs.Answers.{Answers}
 use Rattle.tree.specs.View.{Formed}
 use Rattle.view.specs.View.{viewOf}
 use Rattle.view.specs.Formed.{formed-view}

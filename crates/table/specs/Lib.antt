@@ -17,3 +17,4 @@ pub mod Run
 pub mod Became
 pub mod Laws
 pub mod RoundTrip
+pub mod Whole

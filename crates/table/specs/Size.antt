@@ -11,7 +11,7 @@ use Rattle.table.specs.Table.{rightSize, recordsOf, at, freeTable}
 use Rattle.table.specs.Stands.{right-whole, right-most, right-some, are-right, free-are}
 use Rattle.table.specs.Records.{records-at}
 
--- a table of the right size is whole records, 1 to 1,024 of them; of a table l say `right-are`, `right-most`, `right-some`
+-- a right size is whole records, 1 to 1,024 of them; of a table say `right-are`, `right-most`, `right-some`
 pub whole :
     (n : ℕ)
     → rightSize n ≡ true

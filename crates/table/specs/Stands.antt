@@ -1,12 +1,12 @@
--- Which records stand in lent bytes: what a contract over a table asks of it, in place of where its bytes end. Callers use
--- the laws below and not the text of these names. Assumes nothing.
+-- Which records stand in lent bytes: what a contract over a table asks of it, in place of where its bytes end. Callers
+-- use the laws below and not the text of these names. Assumes nothing.
 use Prim.Native.Nat.{ℕ, _+_, _*_, _/_, _%_, _≤_, _<_}
 use mathlib.Core.Path.{_≡_, ap, sym, _∙_}
 use mathlib.Core.Bool.{true, _&&_}
 use mathlib.Core.List.{List}
 use native.Mathlib.Omega.{arith}
 use lib.Dec.{leb, eqb}
-use lib.ListN.{length, length-replicate}
+use lib.ListN.{length, replicate, length-replicate}
 use borrow.Author.Tests.{leb-true, le-leb, eqb-true, eq-eqb}
 use Rattle.places.specs.Choice.{and-left, and-right, and-both}
 use Rattle.refusals.specs.Limits.{mostRecords, mostChildren}
@@ -89,9 +89,14 @@ are-long l m n e f = e ∙ sym f
 pub are-large : (l : List ℕ) (n : ℕ) → AreRecords l n → n ≤ mostRecords → length l ≤ largestTable
 are-large l n e h = omega arith
 
--- n free records are n records
+-- n free records are n records, and n records made free are these
 pub free-are : (n : ℕ) → AreRecords (freeTable n) n
+unfolding freeTable
 free-are n = length-replicate {A = ℕ} (placeOf n) 0
+
+pub are-free : (l : List ℕ) (n : ℕ) → AreRecords l n → replicate (length l) 0 ≡ freeTable n
+unfolding freeTable
+are-free l n e = ap (λ (k : ℕ). replicate k 0) e
 
 -- ---- the right size
 
