@@ -1,6 +1,6 @@
--- Tables of n records, whole: they are of the right size, their rows are their records in every slot, the bytes of a row
--- are such a table, and so is the blank one, which a clear leaves. Assumes nothing.
-use Prim.Native.Nat.{ℕ, _*_, _≤_, _<_}
+-- Tables of n records, whole: they are of the right size, their rows are their records in every slot, the bytes of a
+-- row are such a table, and so is the blank one, which a clear leaves. Assumes nothing.
+use Prim.Native.Nat.{ℕ, _*_, _<_}
 use mathlib.Core.Path.{_≡_, sym, _∙_}
 use mathlib.Core.Bool.{true}
 use mathlib.Core.List.{List}
@@ -9,36 +9,24 @@ use lib.ListN.{length, replicate, length-replicate, getD-replicate}
 use lib.Seq.{ext-getD}
 use Rattle.places.specs.Fill.{zeros-at}
 use Rattle.number.specs.Frame.{Bytes}
-use Rattle.refusals.specs.Limits.{mostRecords}
+use Rattle.refusals.specs.Refusal.{done}
 use Rattle.table.specs.Record.{Record, free, recordOf, recordLength}
 use Rattle.table.specs.Table.{rightSize, recordsIn, recordsOf, at, bytesOf}
 use Rattle.table.specs.Clear.{clearOf, cleared, clear-done}
 use Rattle.table.specs.Same.{all-free}
 use Rattle.table.specs.Records.{records-length, records-in, records-at}
-use Rattle.table.specs.Size.{right-size}
 use Rattle.table.specs.RoundTrip.{FittingRow, bytesOf-length}
-use Rattle.table.specs.Stands.{Stands, AreRecords, are-in, are-stand, stands-below}
+use Rattle.table.specs.Stands.{AreRecords, are-in, are-whole}
+pub use Rattle.table.specs.Stands.{are-right, are-stands}
 
 -- ---- bytes that are n records
 
--- from 1 to 1,024 of them are a table of the right size
-pub are-right :
-    (l : List ℕ) (n : ℕ) → AreRecords l n → 1 ≤ n → n ≤ mostRecords → rightSize (length l) ≡ true
-unfolding AreRecords
-are-right l n e some few = rw e (right-size n some few)
-
--- every one of them stands there
-pub are-stands : (l : List ℕ) (n s : ℕ) → AreRecords l n → s < n → Stands l s
-are-stands l n s e h = stands-below l n s (are-stand l n e) h
-
 -- their rows are their records, in every slot
 pub are-rows : (l : List ℕ) (n : ℕ) → AreRecords l n → at (recordsOf l) ≡ recordOf l
-unfolding AreRecords
-are-rows l n e i s = records-at l (omega arith) s i
+are-rows l n e i s = records-at l (are-whole l n e) s i
 
 -- the bytes of a row of records whose fields fit
 pub bytes-are : (rows : List Record) → FittingRow rows → AreRecords (bytesOf rows) (length rows)
-unfolding AreRecords
 bytes-are rows fit = bytesOf-length rows fit
 
 -- ---- the blank table
@@ -71,6 +59,6 @@ blank-rows n =
 
 -- a clear that is done leaves it
 pub clear-blank :
-    (l : List ℕ) (n : ℕ) → AreRecords l n → rightSize (length l) ≡ true → clearOf l ≡ cleared 0 (blank n)
+    (l : List ℕ) (n : ℕ) → AreRecords l n → rightSize (length l) ≡ true → clearOf l ≡ cleared done (blank n)
 unfolding AreRecords blank
 clear-blank l n e right = clear-done l right ∙ rw e
