@@ -17,4 +17,3 @@ pub mod Run
 pub mod Became
 pub mod Laws
 pub mod RoundTrip
-pub mod Whole
