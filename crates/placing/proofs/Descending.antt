@@ -144,7 +144,7 @@ module _ {l₀ x l : List ℕ} {kind arity root depth a away left count : ℕ}
   raised-walkable : Walkable m
   raised-walkable = walkable-same (b .same-length) (λ s. still s .count) (λ s. still s .slots) (w .walkable)
 
-  still-here : Stands m a
+  pub still-here : Stands m a
   still-here = stands-same l m (b .same-length) a (w .here)
 
   rows-lifted : recordsOf m ≡ lifted d x arity rows a
