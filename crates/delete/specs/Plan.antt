@@ -13,7 +13,7 @@ use borrow.Author.Tests.{lt-ltb, le-ltb}
 use Rattle.places.specs.Choice.{pick}
 use Rattle.places.specs.Fill.{zeros-at}
 use Rattle.number.specs.Frame.{Bytes}
-use Rattle.order.specs.Order.{inOrder, placed}
+use Rattle.order.specs.Order.{inOrder, putAmong as placed}
 use Rattle.order.specs.InOrder.{inOrder-length, member-of-inOrder, inOrder-of-member}
 use Rattle.table.specs.Record.{Record, recordOf, free, noSlot, children}
 use Rattle.table.specs.Table.{recordsOf, recordsIn, at}

@@ -25,7 +25,7 @@ use Rattle.places.specs.Decides.{
   reworded,
   decides-same,
 }
-use Rattle.distinct.specs.Distinct.{Distinct, distinctTo, distinct-reads, reads-distinct}
+use Rattle.distinct.specs.Distinct.{OnePlaceEach, distinctTo, distinct-reads, reads-distinct}
 use Rattle.distance.specs.Kind.{known-between}
 use Rattle.table.specs.Record.{Record, Used, used, free, slot, noSlot}
 use Rattle.judge.specs.WellFormed.{Filled, Hung, Owned, WellFormed, ifAny, oneRoot, standing, wellFormed}
@@ -253,7 +253,7 @@ module _ (n : ℕ) (R : ℕ → Record) (small : n ≤ noSlot) where
 -- ---- the test decides it
 
 module _ (n : ℕ) (R : ℕ → Record) where
-  distinct-decided : (f : ℕ → ℕ) → Decides (distinctTo n f) (Distinct n f)
+  distinct-decided : (f : ℕ → ℕ) → Decides (distinctTo n f) (OnePlaceEach n f)
   distinct-decided f = record { shows = distinct-reads n f; passes = reads-distinct n f }
 
   linked-decided : (a : ℕ) → Decides (allLinked n R a) ((i : ℕ) → i < R a .count → Linked n R a i)

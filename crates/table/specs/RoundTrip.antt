@@ -1,6 +1,6 @@
 -- Bytes to records and back, and records to bytes and back, give the same again.
--- The key idea: a record written is read back field by field; that bytes come back then follows, since equal records come
--- of equal bytes. Assumes nothing.
+-- The key idea: a record written is read back field by field; that bytes come back then follows, since equal records
+-- come of equal bytes. Assumes nothing.
 use Prim.Native.Nat.{ℕ, zero, suc, _+_, _*_, _^_, _<_}
 use mathlib.Core.Path.{_≡_, refl, ap, ap₂, sym, _∙_}
 use mathlib.Core.List.{List, [], _∷_, _++_, append-assoc, append-nil}
@@ -71,7 +71,9 @@ fields-fit l b h =
           i
           mostChildren
           (λ p. rw (slot-in l b i p) (number-lt 2 l (slotsAt b + 2 * i) h))
-          (λ p. rw (List·getD-eq-default (recordAt l b .slots) 0 {n = i} (omega (arith, slots-eight l b))) (omega arith));
+          (λ p.
+          rw (List·getD-eq-default (recordAt l b .slots) 0 {n = i} (omega (arith, slots-eight l b)))
+          (omega arith));
       sixteen = readings-sixteen l b;
       readings = readings-fit l (signatureAt b) h;
     }
@@ -86,7 +88,11 @@ numbers-length : (vs : List ℕ) → length (numbers 2 vs) ≡ 2 * length vs
 numbers-length [] = refl
 numbers-length (v ∷ vs) = omega (arith, numbers-length vs)
 
-number-back : (vs rest : List ℕ) (i : ℕ) → Fit vs → i < length vs → numberAt 2 (numbers 2 vs ++ rest) (2 * i) ≡ getD vs i 0
+number-back :
+    (vs rest : List ℕ) (i : ℕ)
+    → Fit vs
+    → i < length vs
+    → numberAt 2 (numbers 2 vs ++ rest) (2 * i) ≡ getD vs i 0
 unfolding numberAt
 number-back [] rest i fit p = absurd (omega arith)
 number-back (v ∷ vs) rest zero fit p = omega (arith, fit 0)
@@ -223,7 +229,7 @@ module _ (r : Record) (fit : Fitting r) where
 -- ---- rows of records
 
 pub bytesOf-length : (rows : List Record) → FittingRow rows → AreRecords (bytesOf rows) (length rows)
-unfolding bytesOf
+unfolding bytesOf AreRecords
 bytesOf-length [] fit = refl
 bytesOf-length (r ∷ rs) fit =
     let one = fit 0 (omega arith) in
@@ -288,7 +294,8 @@ pub rows-back : (rows : List Record) → FittingRow rows → recordsOf (bytesOf 
 unfolding recordOf
 rows-back rows fit =
     let l = bytesOf rows in
-    let long : length (recordsOf l) ≡ length rows = records-length l ∙ are-in l (length rows) (bytesOf-length rows fit) in
+    let long : length (recordsOf l) ≡ length rows =
+    records-length l ∙ are-in l (length rows) (bytesOf-length rows fit) in
     ext-getD
     free
     (recordsOf l)

@@ -1,5 +1,5 @@
--- What is known of the record in slot s of any bytes, without where it stands: callers use these laws and not the text of
--- `recordOf`. Assumes nothing.
+-- What is known of the record in slot s of any bytes, without where it stands: callers use these laws and not the text
+-- of `recordOf`. Assumes nothing.
 use Prim.Native.Nat.{ℕ, _+_, _*_, _≤_, _<_}
 use mathlib.Core.Path.{_≡_, sym, _∙_}
 use mathlib.Core.Bool.{Bool, true}
@@ -11,14 +11,18 @@ use Rattle.number.specs.Number.{numberAt}
 use Rattle.number.specs.Frame.{Bytes}
 use Rattle.refusals.specs.Limits.{mostChildren}
 use Rattle.table.specs.Record.{Record, free, slot, slotsAt, placeOf, recordOf}
-use Rattle.table.specs.Table.{recordsIn}
+use Rattle.table.specs.Table.{recordsIn, freeTable}
 use Rattle.table.specs.Stands.{WholeRecords, AreRecords, are-whole, are-in, past-place}
-use Rattle.table.specs.Fields.{slot-in, slots-eight, readings-sixteen, zeros-free, ZeroWords, words-free, free-words}
+use Rattle.table.specs.Fields.{slot-in, slots-eight, readings-sixteen}
+use Rattle.table.specs.Fields.{zeros-free, ZeroWords, words-free, free-words}
 
 -- ---- its rows
 
 -- child slot i stands in two bytes of its own
-pub slot-at : (l : List ℕ) (s i : ℕ) → i < mostChildren → slot (recordOf l s) i ≡ numberAt 2 l (slotsAt (placeOf s) + 2 * i)
+pub slot-at :
+    (l : List ℕ) (s i : ℕ)
+    → i < mostChildren
+    → slot (recordOf l s) i ≡ numberAt 2 l (slotsAt (placeOf s) + 2 * i)
 unfolding recordOf
 slot-at l s i h = slot-in l (placeOf s) i h
 
@@ -50,6 +54,14 @@ past-are l n s e h = past-whole l s (are-whole l n e) (omega (arith, are-in l n 
 pub all-free : (n s : ℕ) → recordOf (replicate n 0) s ≡ free
 unfolding recordOf
 all-free n s = zeros-free (replicate n 0) (placeOf s) (λ j p. zeros-at n (placeOf s + j))
+
+pub free-table : (n s : ℕ) → recordOf (freeTable n) s ≡ free
+unfolding freeTable
+free-table n s = all-free (placeOf n) s
+
+pub free-bytes : (n : ℕ) → Bytes (freeTable n)
+unfolding freeTable
+free-bytes n i = omega (arith, zeros-at (placeOf n) i)
 
 -- ---- a test for a free record
 

@@ -19,7 +19,7 @@ abbrev pub recordsIn : List ℕ → ℕ
 recordsIn l = length l / recordLength
 
 -- the bytes of n free records
-abbrev pub freeTable : ℕ → List ℕ
+unfoldable pub freeTable : ℕ → List ℕ
 freeTable n = replicate (placeOf n) 0
 
 -- ---- bytes and records

@@ -1,5 +1,5 @@
-// How a table is laid out: the bytes of a record, and where each field starts in its record. These numbers stand here and
-// nowhere else in code. The record in slot s starts at s * RECORD.
+// How a table is laid out: the bytes of a record, and where each field starts in its record. These numbers stand here
+// and nowhere else in code. The record in slot s starts at s * RECORD.
 ghost use mathlib.Core.Path.{_≡_};
 ghost use Rattle.table.specs.Table.{recordsIn};
 

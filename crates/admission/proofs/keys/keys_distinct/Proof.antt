@@ -9,7 +9,7 @@ use borrow.Author.Needs.{needs}
 use lib.Dec.{lit<}
 use Rattle.distinct.specs.Distinct.{distinctTo}
 use Rattle.distinct.specs.Seat.{cellCount, cellsOf, seated}
-use Rattle.distinct.specs.Cells.{Holds, holds-none, holds-fresh, holds-seen}
+use Rattle.distinct.specs.Cells.{CellsHold, holds-none, holds-fresh, holds-seen}
 use Rattle.table.specs.Record.{recordOf}
 use Rattle.admission.specs.Key.{keyOf}
 use Rattle.admission.specs.declared.keys.Key.{Key}
@@ -21,7 +21,7 @@ abbrev keyAt : List ℕ → Key → ℕ → ℕ
 keyAt t key s = keyOf key (recordOf t s)
 
 abbrev Inv-loop : tie.InvT-loop
-Inv-loop t n key cells₀ s₀ cells s = (s ≤ n) × Holds cellsOf (keyAt t key) s cells
+Inv-loop t n key cells₀ s₀ cells s = (s ≤ n) × CellsHold cellsOf (keyAt t key) s cells
 
 abbrev μ-loop : tie.MeasureT-loop
 μ-loop t n key cells₀ s₀ cells s = n - s
