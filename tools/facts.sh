@@ -26,9 +26,13 @@ messages() { # LOG
             if (head ~ /^`search`: no proof of `/) return "fact"
             if (head ~ /^`omega`: / && bare ~ /does not follow from what it read/) return "fact"
             # two sides that are not equal, or a statement given where another is asked for
+            if (head ~ /^`cc`: the equations do not join /) return "fact"
             if (head ~ /^`rw`: no occurrence of the path.s left endpoint in the goal/) return "fact"
-            if (m ~ /`rw` has no last argument, so what it leaves must be a path whose two ends are/) return "fact"
-            if (bare ~ /^(as printed|computed as far as they go), the two types /) return "fact"
+            if (head ~ /^`simp`: no equation of the list /) return "fact"
+            if (m ~ /`(rw|simp)` has no last argument, so what it leaves must be a path whose two ends/) return "fact"
+            if (bare ~ /^(as printed|computed as far as they go|compared part by part), the two (types|values) /) \
+                return "fact"
+            if (bare ~ /^antt met a limit while it made the two (types|values) ready to print/) return "fact"
             if (m ~ /^expected type `.*but this has type `/) return "fact"
             if (bare ~ /^_/ && m ~ / does not hold \(this comparison/) return "fact"
             return "unknown"

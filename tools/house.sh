@@ -65,9 +65,10 @@ long_paths() {
 wide_lines() { sources rt antt rs sh c h | xargs grep -nHE '^.{121,}' | cut -c1-160; }
 
 no_head() {
-    local file
+    local file start
     sources rt antt rs sh c h | while IFS= read -r file; do
-        head -n 1 "$file" | grep -qE '^(--|//|#|/\*)' || echo "$file"
+        case $file in *.sh) start='^#' ;; *) start='^(--|//|/\*)' ;; esac
+        head -n 1 "$file" | grep -qE "$start" || echo "$file"
     done
 }
 

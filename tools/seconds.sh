@@ -6,12 +6,12 @@
 #
 # A gate that goes red because the machine was slow is worse than none. So no limit is held to the clock:
 # - rt tells each check's time by the clock, which runs on while a loaded machine does something else: tenfold has been
-#   seen. These times are printed; what is held to a limit is the processor's time, which load changes by a third at
+#   seen. These times are printed; what is held to a limit is the processor's time, which load changes by a half at
 #   most. rt does not tell it, so it is read from /proc, twice a second.
-# - A slow processor is found out by the yardstick, the kit's own small crates, which stay the same while ours change.
+# - That half, and a slow processor, is found out by the yardstick: the kit's own small crates, which stay the same.
 #   All limits are in seconds of a machine that takes `yardstick` seconds for them. It is taken before and after, and
 #   the slower of the two counts.
-# - Limits leave room for what is left of it: see tools/limits.txt.
+# - What is above its limit by `room` percent or less is told and passes: that much no measure here can tell apart.
 set -u
 cd -P "$(dirname "$0")/.."
 passed=0 failed=0
@@ -65,17 +65,18 @@ by_the_processor() { # CHECKS SPEED
 
 # The crates in rt's order, each with: proof and edits by the clock, how many edits, proof and edits by the processor.
 rows() { # LOG CHECKS SPEED
-    { by_the_clock "$1" | sed 's/^/clock /'; by_the_processor "$2" "$3" | sed 's/^/cpu /'; } | awk '
-        $1 == "clock" && !($2 in seen) { seen[$2] = 1; order[++n] = $2 }
-        { sum[$1, $2, $3] += $4 }
-        $1 == "clock" && $3 == "edit" { edits[$2]++ }
-        END {
-            for (i = 1; i <= n; i++) {
-                c = order[i]
-                print c, sum["clock", c, "proof"] + 0, sum["clock", c, "edit"] + 0, edits[c] + 0, \
-                    sum["cpu", c, "proof"] + 0, sum["cpu", c, "edit"] + 0
-            }
-        }'
+    { by_the_clock "$1" | sed 's/^/clock /'; by_the_processor "$2" "$3" | sed 's/^/cpu /'; } |
+        awk -v OFMT=%.1f '
+            $1 == "clock" && !($2 in seen) { seen[$2] = 1; order[++n] = $2 }
+            { sum[$1, $2, $3] += $4 }
+            $1 == "clock" && $3 == "edit" { edits[$2]++ }
+            END {
+                for (i = 1; i <= n; i++) {
+                    c = order[i]
+                    print c, sum["clock", c, "proof"] + 0, sum["clock", c, "edit"] + 0, edits[c] + 0, \
+                        sum["cpu", c, "proof"] + 0, sum["cpu", c, "edit"] + 0
+                }
+            }'
 }
 
 show() {
@@ -95,15 +96,18 @@ show() {
         }'
 }
 
+above() { awk -v a="$1" -v b="$2" -v room="$3" 'BEGIN { exit !(a > b * (1 + room / 100)) }'; }
+
 # Holds seconds to a limit. A check that took the clock seconds and the processor none was not watched: no pass.
 hold() { # WHAT SECONDS LIMIT CLOCK
     if [ -z "$3" ]; then
         echo "$1: tools/limits.txt allows nothing"
-    elif awk -v a="$2" -v c="$4" 'BEGIN { exit !(a == 0 && c > 2) }'; then
+    elif ! above "$2" 0 0 && [ "$4" -gt 2 ]; then
         echo "$1: it was not measured"
-    elif awk -v a="$2" -v b="$3" 'BEGIN { exit !(a > b) }'; then
+    elif above "$2" "$3" "$(limit room)"; then
         echo "$1: $2 s by the yardstick, allowed $3"
     else
+        ! above "$2" "$3" 0 || echo "$1: $2 s by the yardstick, allowed $3: told only, for it may be the machine"
         passed=$((passed + 1))
         return
     fi
@@ -116,7 +120,7 @@ tell() { # LOG CHECKS YARDSTICK
     all=$(rows "$1" "$2" "$speed")
     printf '%s\n' "$all" | show
     echo "a second of this machine's processor counts $speed, by the yardstick"
-    read -r clock proof < <(printf '%s\n' "$all" | awk '{ c += $3; s += $6 } END { print c + 0, s + 0 }')
+    read -r clock proof < <(printf '%s\n' "$all" | awk '{ c += $3; s += $6 } END { printf "%d %.1f\n", c, s }')
     hold "all must-fail edits" "$proof" "$(limit edits)" "$clock"
     while read -r crate clock _ _ proof _; do
         most=$(limit "crate/$crate")

@@ -12,7 +12,7 @@ use lib.Dec.{ltb}
 use lib.ListN.{length, getD, drop, length-map, drop-of-length-le, List·getD-map}
 use lib.Seq.{drop-cons}
 use borrow.Author.Tests.{le-ltb}
-use Rattle.order.specs.Order.{inOrder, placed, times}
+use Rattle.order.specs.Order.{inOrder, putAmong, times}
 use Rattle.order.specs.InOrder.{
   times-nil,
   times-same,
@@ -87,16 +87,16 @@ inOrder-distinct l p = times-once (inOrder l) (λ x. omega (arith, once-times l 
 
 -- ---- a key below all others stays first
 
-placed-first : (x : ℕ) (l : List ℕ) → ((y : ℕ) → y ∈ l → x ≤ y) → placed x l ≡ x ∷ l
-unfolding placed
-placed-first x [] h = refl
-placed-first x (y ∷ l) h =
+putAmong-first : (x : ℕ) (l : List ℕ) → ((y : ℕ) → y ∈ l → x ≤ y) → putAmong x l ≡ x ∷ l
+unfolding putAmong
+putAmong-first x [] h = refl
+putAmong-first x (y ∷ l) h =
     let e : ltb y x ≡ false = le-ltb y x (h y (first refl)) in
-    ap (λ (t : Bool). cond t (y ∷ placed x l) (x ∷ y ∷ l)) e
+    ap (λ (t : Bool). cond t (y ∷ putAmong x l) (x ∷ y ∷ l)) e
 
 pub inOrder-first : (x : ℕ) (l : List ℕ) → ((y : ℕ) → y ∈ l → x ≤ y) → inOrder (x ∷ l) ≡ x ∷ inOrder l
 inOrder-first x l h =
-    unfold inOrder in placed-first x (inOrder l) (λ y i. h y (member-of-inOrder y l i))
+    unfold inOrder in putAmong-first x (inOrder l) (λ y i. h y (member-of-inOrder y l i))
 
 -- ---- slots in age order are the same slots
 

@@ -1,6 +1,6 @@
 -- What the paper asks, as definitions: of a table after a history (`Holds`), of an accepted search (`Finds`), and of
 -- the refusals of a call (`Refuses`).
-use Prim.Native.Nat.{ℕ, _*_, _≤_}
+use Prim.Native.Nat.{ℕ, _≤_}
 use mathlib.Core.Path.{_≡_}
 use mathlib.Core.Logic.{_↔_}
 use mathlib.Core.List.{List, map, List·Memᴰ}
@@ -10,6 +10,7 @@ use Rattle.distance.specs.Signature.{readingsAt}
 use Rattle.distance.specs.Kind.{apart}
 use Rattle.table.specs.Record.{recordOf}
 use Rattle.table.specs.Table.{recordsIn}
+use Rattle.table.specs.Stands.{AreRecords}
 use Rattle.judge.specs.WellFormed.{WellFormed}
 use Rattle.tree.specs.Slots.{_∈_, Distinct}
 use Rattle.refusals.specs.Refusal.{Test, firstOf, done}
@@ -28,7 +29,7 @@ cardsOf stored = map (λ (x : Newcomer). x .card) stored
 
 -- a table of n records, and the cards that are stored according to the calls
 pub record Holds (n : ℕ) (st : State) : Type 0 where
-  pub size : length (st .table) ≡ n * 64
+  pub size : AreRecords (st .table) n
   pub bytes : Bytes (st .table)
   pub well-formed : WellFormed n (recordOf (st .table))
   pub sound : SoundTable n (recordOf (st .table))

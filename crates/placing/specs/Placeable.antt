@@ -8,7 +8,7 @@ use Rattle.distance.specs.Signature.{Fit}
 use Rattle.table.specs.Record.{recordOf}
 use Rattle.table.specs.Table.{rightSize, recordsIn, recordsOf}
 use Rattle.survey.specs.declared.Findings.{Findings}
-use Rattle.survey.specs.Pass.{Answers}
+use Rattle.survey.specs.Answers.{Answers}
 use Rattle.newcomer.specs.Newcomer.{Newcomer}
 use Rattle.placing.specs.Place.Settled.{Ready}
 use Rattle.refusals.specs.Limits.{lastTimestamp}

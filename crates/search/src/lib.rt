@@ -40,7 +40,7 @@ fn refusal_before(t: &[u8], kind: u8, signature: &[u8]) -> u8
     if !table::right_size(t) {
         return SIZE;
     }
-    if !judge::well_formed(t, t.len() / RECORD) {
+    if !admission::well_formed(t, t.len() / RECORD) {
         return TABLE;
     }
     if !(((kind == 1) | (kind == 2)) & (signature.len() == 32)) {

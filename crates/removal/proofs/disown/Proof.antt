@@ -36,13 +36,16 @@ stands-ended c =
 -- ---- needs
 
 count-of-requires : tie.Need-count-of-requires
-count-of-requires c κs = search needs
+count-of-requires c κs = c .before .before .pre .0
 
 cast-close-up : tie.Need-cast-close-up
 cast-close-up c = search needs
 
 close-up-requires : tie.Need-close-up-requires
-close-up-requires c κs = search needs
+close-up-requires c κs =
+    let k = c .before in
+    let s = start k in
+    (s .pre .0, omega (arith, k .count-of .ensures, s .pre .1 .to-8))
 
 cast-put-slot : tie.Need-cast-put-slot
 cast-put-slot c = search needs

@@ -1,5 +1,5 @@
--- What an insertion leaves: which slots are used, whose children they are, and what stands below what. The new slot is a
--- child of one record alone, nothing stands below it, and an old record stands below what it stood below.
+-- What an insertion leaves: which slots are used, whose children they are, and what stands below what. The new slot
+-- is a child of one record alone, nothing stands below it, and an old record stands below what it stood below.
 -- Assumes nothing.
 use Prim.Native.Nat.{ℕ, suc, _≤_}
 use mathlib.Core.Path.{_≡_}

@@ -1,6 +1,6 @@
--- The walk of an insertion: the child taken is a nearest one, and of these the oldest; each record visited is the root or
--- the child taken of another one visited; no record is visited twice, so the distance count is at most the used records.
--- Assumes nothing.
+-- The walk of an insertion: the child taken is a nearest one, and of these the oldest; each record visited is the
+-- root or the child taken of another one visited; no record is visited twice, so the distance count is at most the
+-- used records. Assumes nothing.
 use Prim.Native.Nat.{ℕ, suc, zero, _≤_, _<_}
 use mathlib.Core.Bool.{Bool, true, false, cond}
 use mathlib.Core.Path.{_≡_, refl}

@@ -13,7 +13,8 @@ use Rattle.tree.specs.View.Count.{used-at-most}
 use Rattle.tree.specs.View.Under.{under, under-iff, under-used, under-distinct}
 use Rattle.tree.specs.Remove.{Removed}
 
-module _ {Sig : Type 0} {v w : View Sig} {n root b : ℕ} (wf : Formed v n root) (ub : Used v b) (gone : Removed v w b) where
+module _ {Sig : Type 0} {v w : View Sig} {n root b : ℕ}
+    (wf : Formed v n root) (ub : Used v b) (gone : Removed v w b) where
   abbrev low : List ℕ
   low = under (v .children) (usedCount v n) b
 

@@ -1,5 +1,5 @@
--- The used slots as a list: `usedCount` is its length, so no more slots without repeats can all be used. Hence a walk that
--- enters no slot twice has a distance count of at most the used records. Assumes nothing.
+-- The used slots as a list: `usedCount` is its length, so no more slots without repeats can all be used. Hence a walk
+-- that enters no slot twice has a distance count of at most the used records. Assumes nothing.
 use Prim.Native.Nat.{ℕ, suc, zero, _+_, _≤_, _<_, min}
 use mathlib.Core.Bool.{Bool, true, false}
 use mathlib.Core.Path.{_≡_, refl, sym, _∙_}

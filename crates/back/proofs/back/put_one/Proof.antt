@@ -19,7 +19,7 @@ hung c = c .before .before .before .before
 -- ---- needs
 
 seat-requires : tie.Need-seat-requires
-seat-requires c κs = search needs
+seat-requires c κs = c .before .before .before .pre .0
 
 same-length : tie.Need-same-length
 same-length c = search needs

@@ -11,6 +11,7 @@ use Rattle.refusals.specs.Limits.{knownArity}
 use Rattle.refusals.specs.Refusal.{firstOf, done}
 use Rattle.table.specs.Record.{recordOf}
 use Rattle.table.specs.Table.{recordsIn}
+use Rattle.table.specs.Stands.{stand-all}
 use Rattle.survey.specs.Survey.{slotOfCard}
 use Rattle.admission.specs.Admission.{admissionTests}
 use Rattle.delete.specs.Call.{
@@ -91,7 +92,8 @@ returns-2 c =
     (sym (r .ensures) ∙ not-true (r .result) (c .before .if2 .taken))
 
 slot-of-card-requires : tie.Need-slot-of-card-requires
-slot-of-card-requires c κs = search needs
+slot-of-card-requires c κs =
+    let p = passed (c .before .before) in stand-all (start (judged p) .args .t .now)
 
 refused-requires-3 : tie.Need-refused-requires-3
 refused-requires-3 c κs = search needs

@@ -169,7 +169,7 @@ module _ (τ : ℕ) where
   note-key-requires c κs = let p = start (c .before) .pre .1 in (p .1, p .2, room (c .before))
 
   child-count-requires : gather-lts.Need-child-count-requires (Known τ) (gather-at τ) gather.Post Inv-loop μ-loop
-  child-count-requires c κs = search needs
+  child-count-requires c κs = start (c .before .before .before .before) .pre .1 .1
 
   add-at : gather-lts.Need-add-at (Known τ) (gather-at τ) gather.Post Inv-loop μ-loop
   add-at c =

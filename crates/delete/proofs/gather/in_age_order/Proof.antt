@@ -50,7 +50,8 @@ long c = ap length (whole c .2) ∙ length-map (slots c) (keyOf (recordOf (start
 -- ---- needs
 
 gather-requires : tie.Need-gather-requires
-gather-requires c κs = search needs
+gather-requires c κs =
+    let p = c .before .before .before .pre in (p .0, p .1, p .2, omega (arith, p .3))
 
 slice-relend-prefix-oldest-first : tie.Need-slice-relend-prefix-oldest-first
 slice-relend-prefix-oldest-first c =
