@@ -33,7 +33,7 @@ use Rattle.view.specs.Refusal.{otherKind}
 use Rattle.refusals.specs.Refusal.{done, SIZE, TABLE, ARGUMENT, KIND, SHORT}
 use Rattle.view.specs.Survey.{usedIn-usedCount}
 use Rattle.search.specs.Search.{outcome, noBound, entered, cards, distances, refusalOf, listing}
-use Rattle.search.specs.Walk.{walked, state, query, enteredFrom, after}
+use Rattle.walk.specs.Walk.{walked, state, query, enteredFrom, after}
 use Rattle.admission.specs.Admission.{Readable}
 use Rattle.view.specs.Readable.{readable-seen}
 

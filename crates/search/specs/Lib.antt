@@ -4,4 +4,3 @@ pub mod Promises
 pub mod Laws
 pub mod Accepted
 pub mod Tests
-pub mod Walk

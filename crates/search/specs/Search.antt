@@ -68,6 +68,11 @@ refused k list = outcome k 0 0 list
 unfoldable pub listing : ℕ → List ℕ → List ℕ → Outcome
 listing count cs list = outcome done count (length cs) (sets list 0 cs)
 
+-- what an accepted search leaves, of the table l and the query's readings q
+abbrev pub listingOf : List ℕ → ℕ → List ℕ → ℕ → List ℕ → Outcome
+listingOf l kind q r list =
+    listing (distances (recordsIn l) (recordOf l) kind q r) (cards (recordsIn l) (recordOf l) kind q r) list
+
 -- table l, kind, signature bytes s, radius r and a lent list of cards
 unfoldable pub searchOf : List ℕ → ℕ → List ℕ → ℕ → List ℕ → Outcome
 searchOf l kind s r list =

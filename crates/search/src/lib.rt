@@ -6,13 +6,9 @@ ghost use Rattle.distance.specs.Signature.{Fit};
 ghost use Rattle.table.specs.Record.{recordOf};
 ghost use Rattle.table.specs.Table.{recordsIn};
 ghost use Rattle.survey.specs.Survey.{usedIn, rootOf};
-ghost use Rattle.search.specs.Search.{outcome, searchOf};
+ghost use Rattle.search.specs.Search.{outcome, listingOf, searchOf};
 ghost use Rattle.search.specs.Tests.{refusalBefore, refusalAfterOf};
-ghost use Rattle.search.specs.Walk.{listingOf};
 ghost use Rattle.admission.specs.Admission.{Readable};
-
-mod walk;
-
 use distance::Signature;
 use refusals::ARGUMENT;
 use refusals::DONE;

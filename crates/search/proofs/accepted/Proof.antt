@@ -9,7 +9,7 @@ use Rattle.table.specs.Record.{recordOf}
 use Rattle.table.specs.Table.{recordsIn}
 use Rattle.survey.specs.Survey.{usedIn}
 use Rattle.search.specs.Search.{noBound, cards, distances, listing}
-use Rattle.search.specs.Walk.{State, state, query, walked}
+use Rattle.walk.specs.Walk.{State, state, query, walked}
 use Rattle.view.specs.Readable.{readable-walkable, readable-root}
 use Rattle.search.specs.Accepted.{listing-none, walk-leaves, walk-fits}
 use native.Mathlib.Omega.{arith}
@@ -18,8 +18,8 @@ use Rattle.search.proofs.accepted.Statement.{statement}
 use Rattle.search.proofs.accepted.Tie as tie
 use Rattle.search.proofs.accepted.Reads as reads
 use Rattle.search.proofs.accepted.Lts as lts
-use Rattle.search.proofs.walk.away_from.Reads as away-from-reads
-use Rattle.search.proofs.walk.walk.Reads as walk-reads
+use Rattle.walk.proofs.away_from.Reads as away-from-reads
+use Rattle.walk.proofs.walk.Reads as walk-reads
 
 returns : tie.Need-returns
 returns c =
