@@ -1,6 +1,9 @@
 // What every call does first: the table that it is lent is judged, and what calls ask of a table is found.
 ghost use mathlib.Core.Path.{_≡_};
 ghost use Rattle.admission.specs.Admission.{Admits, nothing};
+
+pub mod query;
+
 use refusals::DONE;
 use refusals::SIZE;
 use refusals::TABLE;

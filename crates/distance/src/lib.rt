@@ -8,6 +8,9 @@ ghost use Rattle.distance.specs.Readings.{gap, readingsApart};
 ghost use Rattle.distance.specs.Mask.{bitsApart, masksApart};
 ghost use Rattle.distance.specs.Kind.{apart, knownKind};
 
+// The fourth law's bound: no distance exceeds it.
+pub const FARTHEST: u32 = 1048560;
+
 // Sixteen readings held together and passed as one. A fault mask is the same 32 bytes, taken as four words.
 pub struct Signature {
     pub readings: [u16; 16],

@@ -1,2 +1,3 @@
--- The walk of a range search: its steps, and what it leaves of the list and the counts that it is lent.
-pub mod Walk
+-- The walk of a range search: the paper's steps, asked of one record, and, in Loop, what the code's loops are held to.
+pub mod Step
+pub mod Loop

@@ -8,12 +8,11 @@ ghost use Rattle.distance.specs.Laws.{farthest};
 ghost use Rattle.refusals.specs.Limits.{mostChildren};
 ghost use Rattle.table.specs.Record.{recordOf};
 ghost use Rattle.table.specs.Stands.{Stands, Walkable};
-ghost use Rattle.walk.specs.Walk.{isCovered, isEntered, cardWithin, awayFrom, Compared};
-ghost use Rattle.walk.specs.Walk.{state, query, childBound, walked};
+ghost use Rattle.walk.specs.Step.{asked, query, awayFrom, awayIn, isCovered, isEntered, cardWithin};
+ghost use Rattle.walk.specs.Loop.Children.{Compared, childBound};
+ghost use Rattle.walk.specs.Loop.State.{stateOf, walked, Fits};
+use distance::FARTHEST;
 use distance::Signature;
-
-// The fourth law's bound: no distance exceeds it, so that the first child is always visited.
-const FARTHEST: u64 = 1048560;
 
 // How far a search has come: the cards listed, and the distances worked out.
 pub struct Reached {
@@ -62,7 +61,8 @@ fn enters(t: &[u8], s: usize, away: u64, radius: u64, bound: u64) -> bool
 // Step 2: the card of the record in slot s, at the distance `away`, is listed if that is at most the radius.
 // Returns how many cards are listed then.
 fn note(t: &[u8], s: usize, away: u64, radius: u64, list: &mut [u32], found: usize) -> usize
-    requires { ⌜ Stands (now t) s × (found + length (cardWithin (recordOf (now t) s) away radius) ≤ length (now list)) ⌝ }
+    requires { ⌜ Stands (now t) s
+        × (found + length (cardWithin (recordOf (now t) s) away radius) ≤ length (now list)) ⌝ }
     ensures { λ r.
         ⌜ (now (list .exit) ≡ sets (now (list .entry)) found (cardWithin (recordOf (now (t .entry)) s) away radius))
         × (r ≡ found + length (cardWithin (recordOf (now (t .entry)) s) away radius)) ⌝ }
@@ -96,7 +96,7 @@ fn bound_of(t: &[u8], s: usize, n: usize, ds: [u64; 8], k: usize, radius: u64, b
     ensures { λ x.
         ⌜ ((kind : ℕ) (q : List ℕ)
         → Compared (recordOf (now (t .entry))) kind q s n ds
-        → x ≡ childBound (query (now (t .entry)) kind q radius) s k bound) ⌝ }
+        → x ≡ childBound (asked (recordOf (now (t .entry))) kind q radius) s k bound) ⌝ }
 {
     let away = ds[k];
     let mut lowest = bound;
@@ -113,9 +113,10 @@ fn bound_of(t: &[u8], s: usize, n: usize, ds: [u64; 8], k: usize, radius: u64, b
     lowest
 }
 
-// The walk from the record in slot s, at the distance `away`; `left` is the depth left. Cards go into the list after those
-// found. At each turn list, cards and count are those of this record and of the walks from its first k children, and
-// `near` is the smallest distance among them.
+// The walk from the record in slot s, at the distance `away`; `left` is the depth left. Cards go into the list after
+// those found. At each turn list, cards and count are those of this record and of the walks from its first k children,
+// and `near` is the smallest distance among them; it starts from one that no distance exceeds, so that the first child
+// is always visited.
 pub fn walk(
     t: &[u8],
     kind: u8,
@@ -129,14 +130,11 @@ pub fn walk(
     left: usize,
 ) -> Reached
     requires { ⌜ Walkable (now t) × Stands (now t) s × (radius < 2 ^ 32)
-        × (away ≡ awayFrom (recordOf (now t)) kind (q .readings) s) ⌝ }
-    requires { ⌜ walked (query (now t) kind (q .readings) radius) (now list) (start .found) (start .count) left s bound .found
-        ≤ length (now list) ⌝ }
-    requires { ⌜ walked (query (now t) kind (q .readings) radius) (now list) (start .found) (start .count) left s bound .count
-        < 2 ^ 32 ⌝ }
+        × (away ≡ awayIn (query (now t) kind q radius) s) ⌝ }
+    requires { ⌜ Fits (now list) (walked (query (now t) kind q radius) left s bound (stateOf (now list) start)) ⌝ }
     ensures { λ r.
-        ⌜ state (now (list .exit)) (r .found) (r .count)
-        ≡ walked (query (now (t .entry)) kind (q .readings) radius) (now (list .entry)) (start .found) (start .count) left s bound ⌝ }
+        ⌜ stateOf (now (list .exit)) r
+        ≡ walked (query (now (t .entry)) kind q radius) left s bound (stateOf (now (list .entry)) start) ⌝ }
 {
     if left == 0 {
         return start;
@@ -151,7 +149,7 @@ pub fn walk(
         found: found,
         count: start.count + n,
     };
-    let mut near = FARTHEST;
+    let mut near = FARTHEST as u64;
     let mut k = 0;
     while k < n {
         let e = ds[k];

@@ -1,17 +1,19 @@
--- `walk::bound_of` meets its contract. The loop's invariant: what is left of the definition from sibling j on,
--- started from the lowest so far, is the definition itself. Assumes nothing.
+-- `walk::bound_of` meets its contract. The loop's invariant: what is left of the definition from sibling j on, started
+-- from the lowest so far, is the definition itself. Assumes nothing.
 use Prim.Native.Nat.{ℕ, _+_, _*_, _-_, _≤_, _<_, min}
-use mathlib.Core.Path.{_≡_, refl, sym, ap, _∙_}
+use mathlib.Core.Path.{_≡_, refl, sym, ap, subst, _∙_}
 use mathlib.Core.List.{List}
 use lib.Dec.{ltb}
 use lib.ListN.{getD, length}
-use borrow.Author.Tests.{lt-ltb, le-ltb}
-use Rattle.table.specs.Record.{recordOf, slot}
-use Rattle.tree.specs.Search.{least}
-use Rattle.walk.specs.Walk.{Compared, query, boundOn, childBound}
-use Rattle.walk.proofs.Steps.{cases, slots-length, bound-step, bound-end}
-use native.Mathlib.Omega.{arith}
 use borrow.Author.Needs.{needs}
+use borrow.Author.Tests.{lt-ltb, le-ltb}
+use native.Mathlib.Omega.{arith}
+use Rattle.table.specs.Record.{Record, recordOf, slot}
+use Rattle.table.specs.Stands.{Stands}
+use Rattle.tree.specs.Search.{least}
+use Rattle.walk.specs.Step.{asked}
+use Rattle.walk.specs.Loop.Children.{Compared, boundOn, childBound}
+use Rattle.walk.proofs.Children.{cases, count-slots, bound-step, bound-end, least-taken, least-left}
 use Rattle.walk.proofs.bound_of.Statement.{statement}
 use Rattle.walk.proofs.bound_of.Tie as tie
 
@@ -20,10 +22,34 @@ Inv-loop t s n k radius bound ds away lowest₀ j₀ lowest j =
     (k < j) × (j ≤ n)
     × ((kind : ℕ) (q : List ℕ)
     → Compared (recordOf t) kind q s n ds
-    → boundOn (query t kind q radius) s k lowest j ≡ childBound (query t kind q radius) s k bound)
+    → boundOn (asked (recordOf t) kind q radius) s k lowest j ≡ childBound (asked (recordOf t) kind q radius) s k bound)
 
 abbrev μ-loop : tie.MeasureT-loop
 μ-loop t s n k radius bound ds away lowest₀ j₀ lowest j = n - j
+
+-- ---- stations
+
+abbrev start : tie.At-loop Inv-loop μ-loop → tie.Start Inv-loop μ-loop
+start c = c .before .before
+
+abbrev records : tie.At-loop Inv-loop μ-loop → ℕ → Record
+records c = recordOf (start c .args .t .now)
+
+-- the sibling that the loop has come to
+abbrev sibling : tie.At-loop Inv-loop μ-loop → ℕ
+sibling c = slot (records c (start c .args .s)) (c .loop .j)
+
+few :
+    (c : tie.At-loop Inv-loop μ-loop)
+    → records c (start c .args .s) .count ≤ length (records c (start c .args .s) .slots)
+few c = let a = start c .args in count-slots (a .t .now) (a .s) (omega (arith, start c .pre .0 .2, start c .pre .0 .3))
+
+sibling-counted :
+    (c : tie.In-loop Inv-loop μ-loop) →
+    let l = c .before in l .loop .j < records l (start l .args .s) .count
+sibling-counted c = omega (arith, c .loop-test .taken, start (c .before) .pre .0 .2)
+
+-- ---- needs
 
 mul-away : tie.Need-mul-away Inv-loop μ-loop
 mul-away c = search needs
@@ -48,7 +74,7 @@ mul-if1-2 c = search needs
 
 add-if1 : tie.Need-add-if1 Inv-loop μ-loop
 add-if1 c =
-    let near = c .before .before .before .pre .1 .2 (c .before .loop .j) in
+    let near = start (c .before) .pre .1 .2 (c .before .loop .j) in
     search needs
 
 child-of-requires : tie.Need-child-of-requires Inv-loop μ-loop
@@ -56,8 +82,10 @@ child-of-requires c κs = search needs
 
 timestamp-of-requires : tie.Need-timestamp-of-requires Inv-loop μ-loop
 timestamp-of-requires c κs =
-    let p = c .before .before .before .before .before .pre in
-    rw (c .child-of .ensures) (p .0 .0 .stand _ _ (p .0 .1) (omega arith))
+    let l = c .before .before .before in
+    let p = start l .pre .0 in
+    subst (Stands (start l .args .t .now)) (sym (c .child-of .ensures))
+    (p .0 .stand (start l .args .s) (l .loop .j) (p .1) (sibling-counted (c .before .before)))
 
 wide-requires : tie.Need-wide-requires Inv-loop μ-loop
 wide-requires c κs = search needs
@@ -71,43 +99,49 @@ add-j-2 c = search needs
 loop-less : tie.Need-loop-less Inv-loop μ-loop
 loop-less c = search needs
 
-loop-again : tie.Need-loop-again Inv-loop μ-loop
-unfolding least
-loop-again c =
-    let a = c .before .before .before .before .args in
-    let p = c .before .before .before .before .pre in
-    let l = c .before .before .loop in
-    let R = recordOf (a .t .now) in
-    let lt : l .j < R (a .s) .count = omega arith in
-    let few : R (a .s) .count ≤ length (R (a .s) .slots) = omega (arith, slots-length (a .t .now) (a .s)) in
-    let met : (x y : ℕ) → getD (a .t4) (l .j) 0 ≡ x → getD (a .t4) (a .k) 0 ≡ y
-    → c .if1 .lowest ≡ least (ltb (x + 2 * a .radius) y) (R (slot (R (a .s)) (l .j)) .timestamp) (l .lowest) = λ x y ex ey.
+-- a turn is a step of the definition, whatever the distances x of this sibling and y of the child are called
+turned :
+    (c : tie.Joined1 Inv-loop μ-loop) →
+    let l = c .before .before in
+    let a = start l .args in
+    (x y : ℕ)
+    → getD (a .t4) (l .loop .j) 0 ≡ x
+    → getD (a .t4) (a .k) 0 ≡ y
+    → c .if1 .lowest ≡ least (ltb (x + 2 * a .radius) y) (records l (sibling l) .timestamp) (l .loop .lowest)
+turned c x y ex ey =
+    let l = c .before .before in
+    let a = start l .args in
     cases (c .if1 .came)
     (λ w.
-    let h : x + 2 * a .radius < y = omega arith in
-    let e : w .3 .result ≡ R (slot (R (a .s)) (l .j)) .timestamp =
-    w .3 .ensures .0 ∙ w .2 .ensures ∙ ap (λ (z : ℕ). R z .timestamp) (w .1 .ensures) in
-    w .5 ∙ w .4 .ensures ∙ ap (λ (z : ℕ). min z (l .lowest)) e ∙ rw (lt-ltb _ _ h))
-    (λ w. let h : y ≤ x + 2 * a .radius = omega arith in w .1 ∙ rw (le-ltb _ _ h)) in (
+    let time : w .3 .result ≡ records l (sibling l) .timestamp =
+    w .3 .ensures .0 ∙ w .2 .ensures ∙ ap (λ (z : ℕ). records l z .timestamp) (w .1 .ensures) in
+    w .5 ∙ w .4 .ensures ∙ ap (λ (z : ℕ). min z (l .loop .lowest)) time
+    ∙ least-taken (x + 2 * a .radius) y _ (l .loop .lowest) (omega arith))
+    (λ w. w .1 ∙ least-left (x + 2 * a .radius) y (records l (sibling l) .timestamp) (l .loop .lowest) (omega arith))
+
+loop-again : tie.Need-loop-again Inv-loop μ-loop
+loop-again c =
+    let l = c .before .before in
+    let a = start l .args in (
       search needs,
       search needs,
       λ kind q h.
-          let Q = query (a .t .now) kind q (a .radius) in
+          let Q = asked (records l) kind q (a .radius) in
           ap
-          (λ (z : ℕ). boundOn Q (a .s) (a .k) z (l .j + 1))
-          (met _ _ (h .each (l .j) (omega arith)) (h .each (a .k) (omega arith)))
-          ∙ sym (bound-step Q (a .s) few (l .lowest) (a .k) (l .j) lt)
-          ∙ l .inv .2 kind q h,
+          (λ (z : ℕ). boundOn Q (a .s) (a .k) z (l .loop .j + 1))
+          (turned c _ _ (h .each (l .loop .j) (c .before .loop-test .taken)) (h .each (a .k) (start l .pre .1 .0)))
+          ∙ sym (bound-step Q (a .s) (few l) (l .loop .lowest) (a .k) (l .loop .j) (sibling-counted (c .before)))
+          ∙ l .loop .inv .2 kind q h,
     )
 
 returns : tie.Need-returns Inv-loop μ-loop
 returns c = λ kind q h.
-    let a = c .before .before .before .args in
-    let l = c .before .loop in
-    let R = recordOf (a .t .now) in
-    let few : R (a .s) .count ≤ length (R (a .s) .slots) = omega (arith, slots-length (a .t .now) (a .s)) in
-    let Q = query (a .t .now) kind q (a .radius) in
-    sym (bound-end Q (a .s) few (l .lowest) (a .k) (l .j) (omega arith)) ∙ l .inv .2 kind q h
+    let l = c .before in
+    let a = start l .args in
+    sym
+    (bound-end (asked (records l) kind q (a .radius)) (a .s) (few l) (l .loop .lowest) (a .k) (l .loop .j)
+    (omega (arith, start l .pre .0 .2)))
+    ∙ l .loop .inv .2 kind q h
 
 pub bound-of-spec : {M : Type 1} → statement M
 bound-of-spec =

@@ -1,11 +1,13 @@
 -- `walk::distances` meets its contract. The loop's invariant: the distances of the children passed stand in
 -- their places. Assumes nothing.
-use Prim.Native.Nat.{_≤_, _-_}
-use mathlib.Core.Path.{_≡_, ap, _∙_}
+use Prim.Native.Nat.{ℕ, _≤_, _-_}
+use mathlib.Core.Path.{_≡_, sym, ap, subst, _∙_}
 use lib.ListN.{length}
-use Rattle.table.specs.Record.{recordOf}
-use Rattle.walk.specs.Walk.{Compared, awayFrom}
-use Rattle.walk.proofs.Steps.{compared-none, compared-more}
+use Rattle.table.specs.Record.{Record, recordOf}
+use Rattle.table.specs.Stands.{Stands}
+use Rattle.walk.specs.Step.{awayFrom}
+use Rattle.walk.specs.Loop.Children.{Compared}
+use Rattle.walk.proofs.Children.{compared-none, compared-more}
 use native.Mathlib.Omega.{arith}
 use borrow.Author.Needs.{needs}
 use Rattle.walk.proofs.distances.Statement.{statement}
@@ -17,21 +19,30 @@ Inv-loop t kind q s n ds₀ k₀ ds k = (k ≤ n) × (length ds ≡ 8) × Compar
 abbrev μ-loop : tie.MeasureT-loop
 μ-loop t kind q s n ds₀ k₀ ds k = n - k
 
+-- ---- stations
+
+abbrev start : tie.At-loop Inv-loop μ-loop → tie.Start Inv-loop μ-loop
+start c = c .before .before
+
+abbrev records : tie.At-loop Inv-loop μ-loop → ℕ → Record
+records c = recordOf (start c .args .t .now)
+
+-- ---- needs
+
 loop-holds : tie.Need-loop-holds Inv-loop μ-loop
-loop-holds c = (
-  search needs,
-  search needs,
-  compared-none
-      (recordOf (c .before .args .t .now)) (c .before .args .kind) (c .before .args .q .readings) (c .before .args .s),
-)
+loop-holds c =
+    let a = c .before .args in
+    (search needs, search needs, compared-none (recordOf (a .t .now)) (a .kind) (a .q .readings) (a .s))
 
 child-of-requires : tie.Need-child-of-requires Inv-loop μ-loop
 child-of-requires c κs = search needs
 
 away-from-requires : tie.Need-away-from-requires Inv-loop μ-loop
 away-from-requires c κs =
-    let p = c .before .before .before .before .pre in
-    rw (c .child-of .ensures) (p .0 .stand _ _ (p .1) (omega arith))
+    let l = c .before .before in
+    let p = start l .pre in
+    subst (Stands (start l .args .t .now)) (sym (c .child-of .ensures))
+    (p .0 .stand (start l .args .s) (l .loop .k) (p .1) (omega arith))
 
 mul-ds : tie.Need-mul-ds Inv-loop μ-loop
 mul-ds c = search needs
@@ -47,19 +58,21 @@ loop-less c = search needs
 
 loop-again : tie.Need-loop-again Inv-loop μ-loop
 loop-again c =
-    let l = c .before .before .before .loop in
-    let a = c .before .before .before .before .before .args in
-    let R = recordOf (a .t .now) in
-    let e = c .away-from .ensures .0 ∙ ap (awayFrom R (a .kind) (a .q .readings)) (c .before .child-of .ensures) in
-    let more =
-    compared-more R (a .kind) (a .q .readings) (a .s) (l .k) _ _ (omega arith) e (c .away-from .ensures .1) (l .inv .2) in
-    (search needs, search needs, more)
+    let l = c .before .before .before in
+    let a = start l .args in
+    let away =
+    c .away-from .ensures .0 ∙ ap (awayFrom (records l) (a .kind) (a .q .readings)) (c .before .child-of .ensures) in (
+      search needs,
+      search needs,
+      compared-more (records l) (a .kind) (a .q .readings) (a .s) (l .loop .k) _ _
+          (omega arith) away (c .away-from .ensures .1) (l .loop .inv .2),
+    )
 
 returns : tie.Need-returns Inv-loop μ-loop
 returns c =
-    let l = c .before .loop in
-    let e : l .k ≡ c .before .before .before .args .n = omega arith in
-    rw (← e) (l .inv .2)
+    let l = c .before in
+    let e : l .loop .k ≡ start l .args .n = omega arith in
+    rw (← e) (l .loop .inv .2)
 
 pub distances-spec : {M : Type 1} → statement M
 distances-spec =

@@ -1,26 +1,24 @@
--- What a search may rely on once the tests of size and table are passed: the table can be walked, its view is one that
--- the tree's theorems speak of, and what is listed and counted is no more than the used records. Assumes nothing.
+-- What a search lists and counts, and that the walk from the root leaves just that: no more than the used records, so
+-- that it fits. Assumes nothing.
 use Prim.Native.Nat.{ℕ, _^_, _≤_, _<_}
-use mathlib.Core.Path.{_≡_, refl, sym, ap, _∙_}
-use mathlib.Core.Bool.{Bool, true, false, _&&_, not}
+use mathlib.Core.Path.{_≡_, sym, ap, _∙_}
+use mathlib.Core.Bool.{Bool, true, false}
 use mathlib.Core.List.{List, [], _∷_}
 use native.Mathlib.Omega.{arith}
 use native.Mathlib.Decide.{ℕ-discrete}
-use lib.Dec.{leb, ltb, eqb}
+use lib.Dec.{leb}
 use native.Mathlib.Nat.{zero-add}
 use lib.ListN.{length, length-append}
 use lib.Seq.{sets}
-use borrow.Author.Tests.{eq-eqb, ne-eqb, eqb-true, ltb-false, not-false, lt-ltb}
-use Rattle.places.specs.Choice.{pick, and-right}
+use borrow.Author.Tests.{eq-eqb, ne-eqb}
 use Rattle.number.specs.Frame.{Bytes, number-lt}
 use Rattle.distance.specs.Laws.{farthest}
 use Rattle.distance.specs.Signature.{Fit, readings-fit}
-use Rattle.distance.specs.Kind.{apart, apart-distance, knownKind}
+use Rattle.distance.specs.Kind.{apart, apart-distance}
 use Rattle.table.specs.Record.{Record, recordOf, timestampAt, signatureAt}
-use Rattle.table.specs.Table.{rightSize, recordsIn}
+use Rattle.table.specs.Table.{recordsIn}
 use Rattle.table.specs.Size.{whole}
-use Rattle.judge.specs.WellFormed.{wellFormed}
-use Rattle.survey.specs.Survey.{usedIn, rootOf, kindOf}
+use Rattle.survey.specs.Survey.{usedIn, rootOf}
 use Rattle.survey.specs.Laws.{usedIn-most}
 use Rattle.tree.specs.Slots.{keep}
 use Rattle.tree.specs.View.{View, Formed, Late, usedCount, distanceCount}
@@ -29,44 +27,14 @@ use Rattle.tree.specs.Search.{visit, listed}
 use Rattle.tree.specs.Search.Once.{visit-distinct, visit-used, visit-count}
 use Rattle.tree.specs.Search.Turn.{visitFrom-farthest}
 use Rattle.view.specs.View.{viewOf}
-use Rattle.view.specs.Refusal.{otherKind}
-use Rattle.refusals.specs.Refusal.{done, SIZE, TABLE, ARGUMENT, KIND, SHORT}
+use Rattle.refusals.specs.Refusal.{done}
 use Rattle.view.specs.Survey.{usedIn-usedCount}
-use Rattle.search.specs.Search.{outcome, noBound, entered, cards, distances, refusalOf, listing}
-use Rattle.walk.specs.Walk.{walked, state, query, enteredFrom, after}
+use Rattle.search.specs.Search.{outcome, noBound, entered, cards, distances, listing}
+use Rattle.walk.specs.Step.{asked}
+use Rattle.walk.specs.Loop.Children.{enteredFrom}
+use Rattle.walk.specs.Loop.State.{state, after, walked}
 use Rattle.admission.specs.Admission.{Readable}
 use Rattle.view.specs.Readable.{readable-seen}
-
--- ---- the tests passed
-
--- no test of a chain holds if the chain gives 0
-pub none-first : (b : Bool) (k x : ℕ) → 1 ≤ k → pick b k x ≡ done → (b ≡ false) × (x ≡ done)
-none-first true k x h e = absurd (omega arith)
-none-first false k x h e = (refl, e)
-
--- what an accepted call's tests have shown, of the table l, the kind, the signature's bytes s and a list of m entries
-pub record Accepted (l : List ℕ) (kind : ℕ) (s : List ℕ) (m : ℕ) : Type 0 where
-  pub readable : Readable l
-  pub bytes : length s ≡ 32
-  pub of-kind : 1 ≤ usedIn (recordsIn l) (recordOf l) → kindOf (recordsIn l) (recordOf l) ≡ kind
-  pub room : usedIn (recordsIn l) (recordOf l) ≤ m
-
-pub accepted : (l : List ℕ) (kind : ℕ) (s : List ℕ) (m : ℕ) → refusalOf l kind s m ≡ done → Accepted l kind s m
-unfolding refusalOf otherKind
-accepted l kind s m e =
-    let n = recordsIn l in
-    let R = recordOf l in
-    let size = none-first (not (rightSize (length l))) SIZE _ (omega arith) e in
-    let table = none-first (not (wellFormed n R)) TABLE _ (omega arith) (size .1) in
-    let argument = none-first (not (knownKind kind && eqb (length s) 32)) ARGUMENT _ (omega arith) (table .1) in
-    let same = none-first (ltb 0 (usedIn n R) && not (eqb (kindOf n R) kind)) KIND _ (omega arith) (argument .1) in
-    let room = none-first (ltb m (usedIn n R)) SHORT _ (omega arith) (same .1) in
-    record {
-      readable = record { size = not-false _ (size .0); formed = not-false _ (table .0) };
-      bytes = eqb-true (length s) 32 (and-right (knownKind kind) _ (not-false _ (argument .0)));
-      of-kind = λ some. eqb-true (kindOf n R) kind (not-false _ (rw (lt-ltb 0 (usedIn n R) some) at (same .0)));
-      room = ltb-false m (usedIn n R) (room .0);
-    }
 
 -- ---- the table
 
@@ -149,7 +117,7 @@ module _ (n : ℕ) (R : ℕ → Record) (kind : ℕ) (q : List ℕ) (r : ℕ) wh
   pub after-walk :
       1 ≤ usedIn n R
       → (list : List ℕ)
-      → after (record { records = R; kind = kind; readings = q; radius = r }) list 0 1 (entered n R kind q r)
+      → after (asked R kind q r) (state list 0 1) (entered n R kind q r)
       ≡ state (sets list 0 (cards n R kind q r)) (length (cards n R kind q r)) (distances n R kind q r)
   unfolding after cards distanceCount
   after-walk some list = rw (zero-add, distances-some some)
@@ -160,7 +128,7 @@ pub walk-entered :
     → Bytes l
     → Fit q
     → 1 ≤ usedIn n (recordOf l)
-    → enteredFrom (query l kind q r) (usedIn n (recordOf l)) (rootOf n (recordOf l)) noBound
+    → enteredFrom (asked (recordOf l) kind q r) (usedIn n (recordOf l)) (rootOf n (recordOf l)) noBound
     ≡ entered n (recordOf l) kind q r
 unfolding recordOf
 walk-entered l q n kind r h f some =
@@ -182,16 +150,18 @@ module _ {l : List ℕ} (ok : Readable l) (bytes : Bytes l) (kind : ℕ) (q : Li
     (some : 1 ≤ usedIn (recordsIn l) (recordOf l)) where
   -- what the walk from the root leaves of a list
   pub walk-leaves :
-      (list : List ℕ)
-      → walked (query l kind q r) list 0 1 (usedIn (recordsIn l) (recordOf l))
-      (rootOf (recordsIn l) (recordOf l)) noBound
+      (used root : ℕ) (list : List ℕ)
+      → used ≡ usedIn (recordsIn l) (recordOf l)
+      → root ≡ rootOf (recordsIn l) (recordOf l)
+      → walked (asked (recordOf l) kind q r) used root noBound (state list 0 1)
       ≡ state
       (sets list 0 (cards (recordsIn l) (recordOf l) kind q r))
       (length (cards (recordsIn l) (recordOf l) kind q r))
       (distances (recordsIn l) (recordOf l) kind q r)
-  walk-leaves list =
-      ap (after (query l kind q r) list 0 1) (walk-entered l q (recordsIn l) kind r bytes fit some)
-      ∙ after-walk (recordsIn l) (recordOf l) kind q r some list
+  walk-leaves used root list u o =
+      rw (u, o)
+      (ap (after (asked (recordOf l) kind q r) (state list 0 1)) (walk-entered l q (recordsIn l) kind r bytes fit some)
+      ∙ after-walk (recordsIn l) (recordOf l) kind q r some list)
 
   pub walk-fits :
       (length (cards (recordsIn l) (recordOf l) kind q r) ≤ usedIn (recordsIn l) (recordOf l))
