@@ -14,8 +14,10 @@ trap 'rm -f "$log"' EXIT
 # Sums the counts that a run printed, in cargo's words or in ours; a run without any, or a bad end, is a failure.
 count() { # STATUS
     local n m
-    n=$(sed -nE 's/^test result: .* ([0-9]+) passed; .*/\1/p; s/^([0-9]+) passed, [0-9]+ failed$/\1/p' "$log" | paste -sd+ | bc)
-    m=$(sed -nE 's/^test result: .* ([0-9]+) failed; .*/\1/p; s/^[0-9]+ passed, ([0-9]+) failed$/\1/p' "$log" | paste -sd+ | bc)
+    n=$(sed -nE 's/^test result: .* ([0-9]+) passed; .*/\1/p; s/^([0-9]+) passed, [0-9]+ failed$/\1/p' "$log" |
+        paste -sd+ | bc)
+    m=$(sed -nE 's/^test result: .* ([0-9]+) failed; .*/\1/p; s/^[0-9]+ passed, ([0-9]+) failed$/\1/p' "$log" |
+        paste -sd+ | bc)
     [ "${n:-0}" -gt 0 ] || [ "${m:-0}" -gt 0 ] || m=1
     [ "$1" -eq 0 ] || [ "${m:-0}" -gt 0 ] || m=1
     passed=$((passed + ${n:-0})) failed=$((failed + ${m:-0}))

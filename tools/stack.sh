@@ -1,6 +1,6 @@
 #!/usr/bin/env bash
-# Measures the stack that each call needs at its worst, and holds it to PLOTVUGA_STACK of include/plotvuga.h. The library
-# is libplotvuga.a of target/staticlib, or of the directory that PLOTVUGA_LIB_DIR names. Needs a C compiler.
+# Measures the stack that each call needs at its worst, and holds it to PLOTVUGA_STACK of include/plotvuga.h. The
+# library is libplotvuga.a of target/staticlib, or of the directory that PLOTVUGA_LIB_DIR names. Needs a C compiler.
 set -u
 cd "$(dirname "$0")/.."
 lib=${PLOTVUGA_LIB_DIR:-$PWD/target/staticlib}/libplotvuga.a

@@ -1,7 +1,7 @@
 #!/usr/bin/env bash
-# Passes every test of the repository, and installs what it needs: the layout, every proof from nothing, every must-fail
-# edit and the reason it was refused for, every program's output, and the comparisons with the independent model, part by
-# part and whole, from C and from Rust.
+# Passes every test of the repository, and installs what it needs: the layout and the rules of the house, every proof
+# from nothing, every must-fail edit, the reason it was refused for and what they cost, every program's output, and the
+# comparisons with the independent model, part by part and whole, from C and from Rust.
 # Its last line is 'N passed, M failed', summed over all of it; it exits non-zero if anything failed.
 set -u
 cd "$(dirname "$0")/.."
@@ -27,6 +27,12 @@ step() { # NAME COMMAND..
     if "$@"; then passed=$((passed + 1)); else failed=$((failed + 1)); echo "FAILED: $name"; fi
 }
 
+# Proves the kit's own crates, and notes the processor's time that it took, the user's and the system's.
+yardstick() {
+    local TIMEFORMAT='%U %S'
+    { time step "rt selftest" rt selftest 2>&1; } 2>>"$logs/yardstick"
+}
+
 finish() {
     echo
     echo "$passed passed, $failed failed"
@@ -43,13 +49,28 @@ bash tools/setup.sh || { failed=1; finish; }
 say "layout"
 step "rt fmt --check" rt fmt --check
 
+say "the rules of the house"
+bash tools/house.sh 2>&1 | tee "$logs/house"
+add "${PIPESTATUS[0]}" "$logs/house"
+
+say "the kit is whole, and how fast the machine is"
+yardstick
+
 say "proofs, must-fail edits, programs"
+bash tools/seconds.sh watch "$logs/checks" &
+watcher=$!
 rt ci 2>&1 | tee "$logs/ci"
 add "${PIPESTATUS[0]}" "$logs/ci"
+kill "$watcher"
 
 say "must-fail edits are refused for a fact"
 bash tools/facts.sh 2>&1 | tee "$logs/facts"
 add "${PIPESTATUS[0]}" "$logs/facts"
+
+say "what the proofs and the must-fail edits cost"
+yardstick
+bash tools/seconds.sh tell "$logs/ci" "$logs/checks" "$logs/yardstick" 2>&1 | tee "$logs/seconds"
+add "${PIPESTATUS[0]}" "$logs/seconds"
 
 say "the proved code against the independent model"
 bash tools/compare.sh 2>&1 | tee "$logs/compare"

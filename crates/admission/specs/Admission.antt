@@ -1,7 +1,7 @@
 -- What every call learns of a table before anything else: refusal 1 or 2, or else the answers to the small questions.
 -- Assumes nothing.
 use Prim.Native.Nat.{ℕ}
-use mathlib.Core.Path.{_≡_, refl, sym, _∙_}
+use mathlib.Core.Path.{_≡_, refl, sym, ap, _∙_}
 use mathlib.Core.Bool.{Bool, true, false, not}
 use mathlib.Core.List.{List, [], _∷_}
 use native.Mathlib.Omega.{arith}
@@ -10,11 +10,13 @@ use borrow.Author.Tests.{not-false}
 use Rattle.places.specs.Choice.{or-left, or-right}
 use Rattle.refusals.specs.Refusal.{Test, firstOf, done, SIZE, TABLE}
 use Rattle.refusals.specs.First.{anyHolds, first-none}
-use Rattle.table.specs.Record.{recordOf}
+use Rattle.table.specs.Record.{Record, recordOf}
 use Rattle.table.specs.Table.{rightSize, recordsIn}
+use Rattle.table.specs.Stands.{right-are}
+use Rattle.table.specs.Same.{past-are}
 use Rattle.judge.specs.WellFormed.{wellFormed}
 use Rattle.survey.specs.declared.Findings.{Findings}
-use Rattle.survey.specs.Pass.{Answers, found}
+use Rattle.survey.specs.Answers.{Answers, found}
 use Rattle.admission.specs.declared.Admitted.{Admitted}
 
 -- "1, SIZE: the table's length isn't a multiple of 64 from 64 to 65,536; 2, TABLE: not well formed"
@@ -52,6 +54,10 @@ admitted-readable l e =
     }
 
 -- ---- the three ends of the judging
+
+-- slot n of n records stands past the last, and has kind 0
+pub past-kind : (l : List ℕ) → rightSize (length l) ≡ true → recordOf l (recordsIn l) .kind ≡ 0
+past-kind l e = ap (λ (r : Record). r .kind) (past-are l (recordsIn l) (recordsIn l) (right-are l e) (omega arith))
 
 pub admits-size :
     (l : List ℕ) (r : Admitted) → rightSize (length l) ≡ false → r .refusal ≡ SIZE → r .found ≡ nothing → Admits l r

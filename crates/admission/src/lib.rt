@@ -1,9 +1,20 @@
 // What every call does first: the table that it is lent is judged, and what calls ask of a table is found.
 ghost use mathlib.Core.Path.{_≡_};
+ghost use Prim.Native.Nat.{_*_, _≤_};
+ghost use Rattle.refusals.specs.Limits.{mostRecords};
+ghost use Rattle.table.specs.Record.{recordOf};
+ghost use Rattle.table.specs.Stands.{StandTo};
+ghost use Rattle.judge.specs.WellFormed.{wellFormed};
+ghost use Rattle.links.specs.Loop.Seen.{Ended, largestByte};
+ghost use Rattle.admission.specs.Verdict.{numbersAgree};
 ghost use Rattle.admission.specs.Admission.{Admits, nothing};
 
+mod keys;
 pub mod query;
 
+use keys::Key;
+use keys::keys_distinct;
+use links::Seen;
 use refusals::DONE;
 use refusals::SIZE;
 use refusals::TABLE;
@@ -29,7 +40,36 @@ fn unread() -> Findings
     }
 }
 
-// Judges the table, and answers what calls ask of it.
+// Is there one root if any record is used, and is every other used record counted as a child?
+fn numbers_agree(seen: Seen) -> bool
+    requires { ⌜ (seen .children ≤ largestByte * mostRecords) × (seen .roots ≤ mostRecords) ⌝ }
+    ensures { λ r. ⌜ r ≡ numbersAgree seen ⌝ }
+{
+    let any = (seen.used != 0) as usize;
+    (seen.roots == any) & (seen.children + seen.roots == seen.used)
+}
+
+// By what the pass has seen of the n records: are they a well-formed table?
+fn formed(t: &[u8], n: usize, seen: Seen) -> bool
+    requires { ⌜ StandTo (now t) n × (n ≤ mostRecords) × Ended n (recordOf (now t)) seen ⌝ }
+    ensures { λ r. ⌜ r ≡ wellFormed n (recordOf (now (t .entry))) ⌝ }
+{
+    if seen.fit & numbers_agree(seen) {
+        keys_distinct(t, n, Key::Card) && keys_distinct(t, n, Key::Timestamp)
+    } else {
+        false
+    }
+}
+
+// Are the first n records of `t` a well-formed table?
+pub fn well_formed(t: &[u8], n: usize) -> bool
+    requires { ⌜ StandTo (now t) n × (n ≤ mostRecords) ⌝ }
+    ensures { λ r. ⌜ r ≡ wellFormed n (recordOf (now (t .entry))) ⌝ }
+{
+    formed(t, n, links::links(t, n))
+}
+
+// Judges the table, and answers what calls ask of it: one pass over the records, and their keys told apart.
 pub fn admit(t: &[u8]) -> Admitted
     ensures { λ r. ⌜ Admits (now (t .entry)) r ⌝ }
 {
@@ -40,7 +80,8 @@ pub fn admit(t: &[u8]) -> Admitted
         };
     }
     let n = t.len() / RECORD;
-    if !judge::well_formed(t, n) {
+    let seen = links::links(t, n);
+    if !formed(t, n, seen) {
         return Admitted {
             refusal: TABLE,
             found: unread(),
@@ -48,6 +89,12 @@ pub fn admit(t: &[u8]) -> Admitted
     }
     Admitted {
         refusal: DONE,
-        found: survey::survey(t, n),
+        found: Findings {
+            used: seen.used,
+            lowest: seen.lowest,
+            largest: seen.largest,
+            root: seen.root,
+            kind: seen.kind,
+        },
     }
 }

@@ -2,7 +2,7 @@
 ghost use mathlib.Core.Path.{_≡_};
 ghost use Prim.Native.Nat.{ℕ};
 ghost use Rattle.table.specs.Record.{Record};
-ghost use Rattle.survey.specs.Pass.{Answers};
+ghost use Rattle.survey.specs.Answers.{Answers};
 ghost use Rattle.admission.specs.Query.{knownQuery, otherKind};
 use refusals::limit::SIGNATURE;
 use survey::Findings;

@@ -16,9 +16,9 @@ use Rattle.tree.specs.View.Under.{under}
 use Rattle.tree.specs.Remove.{except}
 use Rattle.refusals.specs.Limits.{knownArity, lastTimestamp}
 use Rattle.refusals.specs.Refusal.{SIZE, TABLE, ARGUMENT, ABSENT, CLOCK, firstOf, done}
-use Rattle.view.specs.Place.{Placed, placed}
-use Rattle.view.specs.Stored.{brought}
-use Rattle.insert.specs.Insert.{changed}
+use Rattle.placing.specs.Place.{Placed, placed}
+use Rattle.newcomer.specs.Newcomer.{brought}
+use Rattle.placing.specs.Changed.{changed}
 use Rattle.refusals.specs.Outcome.{Outcome, refused}
 
 -- ---- what leaves

@@ -10,15 +10,14 @@ use borrow.Author.Tests.{ltb-false}
 use Rattle.distance.specs.Kind.{apart}
 use Rattle.table.specs.Record.{Record, Used, slot}
 use Rattle.table.specs.Table.{at}
-use Rattle.table.specs.Cases.{below-or}
+use Rattle.places.specs.Cases.{below-or, either}
 use Rattle.table.specs.RoundTrip.{Fitting, FittingRow}
 use Rattle.survey.specs.Survey.{kindOf, largestTimestamp}
-use Rattle.tree.specs.Slots.{either}
 use Rattle.view.specs.Survey.{kindOf-is}
 use Rattle.view.specs.Formed.{free-or-used, used-within}
-use Rattle.view.specs.Place.{Placed}
+use Rattle.placing.specs.Place.{Placed}
 use Rattle.refusals.specs.Limits.{lastTimestamp}
-use Rattle.insert.specs.Fits.{fitting-free, placed-fits}
+use Rattle.placing.specs.RowsFit.{fitting-free, placed-fits}
 use Rattle.delete.specs.Delete.{waiting, removed, oneBack, putBack, deleted, clockWouldPass}
 use Rattle.delete.specs.Leaving.{Held, removed-out}
 use Rattle.delete.specs.Removed.{used-stays, removed-shaped, removed-well-formed}

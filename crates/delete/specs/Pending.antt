@@ -14,16 +14,17 @@ use Rattle.table.specs.Records.{records-length, records-at}
 use Rattle.judge.specs.WellFormed.{WellFormed}
 use Rattle.survey.specs.Survey.{usedIn, rootOf, kindOf}
 use Rattle.survey.specs.Laws.{usedIn-most}
-use Rattle.tree.specs.Slots.{_∈_, either, ∈-decide}
+use Rattle.tree.specs.Slots.{_∈_, ∈-decide}
+use Rattle.places.specs.Cases.{either}
 use Rattle.view.specs.Shaped.{Shaped}
 use Rattle.view.specs.Survey.{rootOf-is}
 use Rattle.view.specs.Formed.{free-or-used, used-within, formed-view}
-use Rattle.view.specs.Place.{Placed}
-use Rattle.view.specs.Stored.{brought}
+use Rattle.placing.specs.Place.{Placed}
+use Rattle.newcomer.specs.Newcomer.{brought}
 use Rattle.refusals.specs.Limits.{lastTimestamp}
 use Rattle.table.specs.Stands.{Walkable}
-use Rattle.insert.specs.Hang.{Hangable}
-use Rattle.insert.specs.Hangable.{hangable}
+use Rattle.placing.specs.Hang.{Hangable}
+use Rattle.placing.specs.Hangable.{hangable}
 use Rattle.delete.specs.Delete.{freedAt, deleted}
 use Rattle.delete.specs.Leaving.{Held, freed-length, freed-out}
 use Rattle.delete.specs.Stale.{puts}

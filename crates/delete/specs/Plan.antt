@@ -13,7 +13,7 @@ use borrow.Author.Tests.{lt-ltb, le-ltb}
 use Rattle.places.specs.Choice.{pick}
 use Rattle.places.specs.Fill.{zeros-at}
 use Rattle.number.specs.Frame.{Bytes}
-use Rattle.order.specs.Order.{inOrder, placed}
+use Rattle.order.specs.Order.{inOrder, putAmong as placed}
 use Rattle.order.specs.InOrder.{inOrder-length, member-of-inOrder, inOrder-of-member}
 use Rattle.table.specs.Record.{Record, recordOf, free, noSlot, children}
 use Rattle.table.specs.Table.{recordsOf, recordsIn, at}
@@ -29,11 +29,11 @@ use Rattle.view.specs.Children.{at-∈}
 use Rattle.view.specs.Survey.{usedIn-usedCount}
 use Rattle.view.specs.Formed.{used-within}
 use Rattle.refusals.specs.Refusal.{CLOCK, done}
-use Rattle.view.specs.Place.{Placed}
+use Rattle.placing.specs.Place.{Placed}
 use Rattle.table.specs.Stands.{Walkable}
 use Rattle.view.specs.Readable.{formed-walkable}
 use Rattle.judge.specs.WellFormed.{WellFormed}
-use Rattle.insert.specs.Insert.{changed}
+use Rattle.placing.specs.Changed.{changed}
 use Rattle.refusals.specs.Outcome.{Outcome, refused}
 use Rattle.refusals.specs.Limits.{lastTimestamp}
 use Rattle.table.specs.RoundTrip.{bytes-back}

@@ -17,9 +17,9 @@ use Rattle.judge.specs.WellFormed.{WellFormed}
 use Rattle.survey.specs.Survey.{slotOfCard}
 use Rattle.refusals.specs.Refusal.{done}
 use Rattle.view.specs.Sound.{SoundTable}
-use Rattle.view.specs.Stored.{Stored}
-use Rattle.view.specs.Place.{Newcomer}
-use Rattle.insert.specs.Insert.{changed}
+use Rattle.placing.specs.Stored.{Stored}
+use Rattle.newcomer.specs.Newcomer.{Newcomer}
+use Rattle.placing.specs.Changed.{changed}
 use Rattle.refusals.specs.Outcome.{refused}
 use Rattle.delete.specs.Delete.{deleted, refusalOf, deleteOf}
 use Rattle.delete.specs.Leaving.{Held}

@@ -8,7 +8,7 @@ use native.Mathlib.Decide.{ℕ-discrete}
 use lib.ListN.{length, List·getD-eq-default}
 use Rattle.table.specs.Record.{Record, Used, free, noSlot, children}
 use Rattle.table.specs.Table.{at}
-use Rattle.table.specs.Cases.{below-or}
+use Rattle.places.specs.Cases.{below-or}
 use Rattle.judge.specs.WellFormed.{WellFormed}
 use Rattle.survey.specs.Survey.{usedIn, rootOf, kindOf}
 use Rattle.tree.specs.Slots.{_∈_, ∈-decide}

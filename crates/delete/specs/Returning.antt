@@ -18,10 +18,11 @@ use Rattle.view.specs.Shaped.{Shaped}
 use Rattle.view.specs.Survey.{kindOf-is}
 use Rattle.view.specs.Formed.{used-within}
 use Rattle.view.specs.Sound.{SoundTable}
-use Rattle.view.specs.Place.{Newcomer, Placed, placed}
-use Rattle.view.specs.Place.Settled.{Ready, Settled, settled-usedIn, settled-largest}
-use Rattle.view.specs.Place.Keeps.{placed-length, placed-settled, placed-sound-table}
-use Rattle.view.specs.Stored.{Stored, brought, brought-is, stored-less}
+use Rattle.placing.specs.Place.{Placed, placed}
+use Rattle.newcomer.specs.Newcomer.{Newcomer, brought, brought-is}
+use Rattle.placing.specs.Place.Settled.{Ready, Settled, settled-usedIn, settled-largest}
+use Rattle.placing.specs.Place.Keeps.{placed-length, placed-settled, placed-sound-table}
+use Rattle.placing.specs.Stored.{Stored, stored-less}
 use Rattle.delete.specs.Delete.{removed, waiting, oneBack, putBack, deleted}
 use Rattle.delete.specs.Leaving.{
   Held,

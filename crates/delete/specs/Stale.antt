@@ -24,22 +24,11 @@ use Rattle.tree.specs.Insert.Same.{path-same, count-same}
 use Rattle.view.specs.View.{viewOf}
 use Rattle.view.specs.Survey.{usedIn-usedCount}
 use Rattle.view.specs.Formed.{formed-view}
-use Rattle.view.specs.Place.{
-  Newcomer,
-  Placed,
-  fresh,
-  raised,
-  raisedAlong,
-  adopting,
-  asRoot,
-  hangingFrom,
-  hanging,
-  placed,
-}
-use Rattle.view.specs.Place.Row.{along-length, along-other}
-use Rattle.view.specs.Place.Hanging.{after-length}
-use Rattle.view.specs.Place.Keeps.{placed-length, placed-settled}
-use Rattle.view.specs.Stored.{brought}
+use Rattle.placing.specs.Place.{Placed, raisedAlong, asRoot, hangingFrom, hanging, placed}
+use Rattle.newcomer.specs.Newcomer.{Newcomer, fresh, raised, adopting, brought}
+use Rattle.placing.specs.Place.Row.{along-length, along-other}
+use Rattle.placing.specs.Place.Hanging.{after-length}
+use Rattle.placing.specs.Place.Keeps.{placed-length, placed-settled}
 use Rattle.delete.specs.Delete.{freedAt}
 use Rattle.delete.specs.Leaving.{Held, freed-length, freed-in, freed-out}
 use Rattle.delete.specs.Returning.{Returning, returning-ready}

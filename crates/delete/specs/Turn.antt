@@ -18,9 +18,9 @@ use Rattle.survey.specs.Laws.{usedIn-most}
 use Rattle.tree.specs.Slots.{_∈_, ∈-decide}
 use Rattle.tree.specs.View.Count.{used-at-most}
 use Rattle.view.specs.Survey.{usedIn-usedCount, rootOf-is}
-use Rattle.view.specs.Place.{Newcomer, Placed, placed}
-use Rattle.view.specs.Place.Keeps.{placed-settled, placed-alone}
-use Rattle.view.specs.Stored.{brought}
+use Rattle.placing.specs.Place.{Placed, placed}
+use Rattle.newcomer.specs.Newcomer.{Newcomer, brought}
+use Rattle.placing.specs.Place.Keeps.{placed-settled, placed-alone}
 use Rattle.refusals.specs.Limits.{lastTimestamp}
 use Rattle.delete.specs.Delete.{leaving, freedAt, unhung, removed, waiting, oneBack, putBack, deleted}
 use Rattle.delete.specs.Leaving.{

@@ -9,9 +9,9 @@ ghost use Rattle.distance.specs.Kind.{apart};
 ghost use Rattle.table.specs.Record.{Record};
 ghost use Rattle.table.specs.Stands.{Stands};
 ghost use Rattle.table.specs.Table.{recordsOf, at};
-ghost use Rattle.view.specs.Place.{Placed};
-ghost use Rattle.view.specs.Stored.{brought};
-ghost use Rattle.insert.specs.Hang.{Hangable};
+ghost use Rattle.placing.specs.Place.{Placed};
+ghost use Rattle.newcomer.specs.Newcomer.{brought};
+ghost use Rattle.placing.specs.Hang.{Hangable};
 ghost use Rattle.delete.specs.Delete.{deleted};
 ghost use Rattle.delete.specs.Clock.{slotIn};
 ghost use Rattle.delete.specs.Stale.{puts};
@@ -40,10 +40,10 @@ fn put_one(
         (puts (apart kind) arity s (brought (at (recordsOf (now (t .entry))) s)) (recordsOf (now (t .entry))) depth root timestamp) ⌝ }
 {
     if depth == 0 {
-        insert::seat(t, s, timestamp, NO_SLOT);
+        newcomer::seat(t, s, timestamp, NO_SLOT);
         return 0;
     }
-    insert::hang(t, s, kind, arity, root, depth, timestamp)
+    placing::hang(t, s, kind, arity, root, depth, timestamp)
 }
 
 // All whose keys stand here go back, but the first, which is the deleted card's; oldest first. At each turn those in the first

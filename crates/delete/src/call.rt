@@ -29,6 +29,10 @@ use refusals::TABLE;
 use refusals::limit::CHILDREN;
 use refusals::limit::TIMESTAMP;
 use refusals::refused;
+
+// The largest timestamp, as wide as the sum that is held against it.
+const LAST: u64 = TIMESTAMP as u64;
+
 use table::RECORD;
 
 // The card in slot v leaves a well-formed table of n records, unless a fresh timestamp would pass the last.
@@ -41,7 +45,7 @@ fn delete_at(t: &mut [u8], v: usize, n: usize, arity: u8) -> Changed
     let mut keys = [0u64; 1024];
     let m = in_age_order(t, v, seen.used, &mut keys);
     let last = last_staying(t, &keys[..m], n);
-    if (TIMESTAMP as u64) < last as u64 + m as u64 - 1 {
+    if LAST < last as u64 + m as u64 - 1 {
         return Changed {
             refusal: CLOCK,
             count: 0,
@@ -77,7 +81,7 @@ fn early_refusal(t: &[u8], card: u32, arity: u8) -> u8
     if !table::right_size(t) {
         return SIZE;
     }
-    if !judge::well_formed(t, t.len() / RECORD) {
+    if !admission::well_formed(t, t.len() / RECORD) {
         return TABLE;
     }
     if right_arguments(card, arity) {

@@ -5,12 +5,13 @@ use native.Mathlib.Omega.{arith}
 use lib.ListN.{replicate}
 use lib.Count.{ones-ones}
 use Rattle.places.specs.Sum.{sumTo}
+use Rattle.distance.specs.Laws.{farthest}
 use Rattle.distance.specs.Signature.{wordOf}
 use Rattle.distance.specs.Readings.{readingsApart}
 use Rattle.distance.specs.Mask.{bitsApart, masksApart}
 
--- P10: all readings 0 against all 65,535
-pub P10 : readingsApart (replicate 16 0) (replicate 16 65535) ≡ 1048560
+-- P10: all readings 0 against all 65,535; it is the fourth law's bound, so no pair of signatures is farther apart
+pub P10 : readingsApart (replicate 16 0) (replicate 16 65535) ≡ farthest
 unfolding readingsApart sumTo
 P10 = refl
 

@@ -1,6 +1,6 @@
 -- Kind 2: "the number of one bits in the exclusive or, summed over the four words, 0 to 256", and its four laws.
 -- The law over a third word is proved bit by bit: of the lowest bits it is the triangle on 0 and 1. Assumes nothing.
-use Prim.Native.Nat.{ℕ, zero, suc, _+_, _/_, _%_, _^_, _≤_, _<_}
+use Prim.Native.Nat.{ℕ, zero, suc, _+_, _-_, _/_, _%_, _^_, _≤_, _<_}
 use mathlib.Core.Path.{_≡_, ap, ap₂, _∙_}
 use mathlib.Core.List.{List}
 use native.Mathlib.Omega.{arith}
@@ -10,7 +10,6 @@ use lib.Count.{ones, ones-step, ones-le}
 use Rattle.distance.specs.Laws.{Distance}
 use Rattle.places.specs.Sum.{sumTo, sum-zero, sum-same, sum-over, sum-at-most}
 use Rattle.distance.specs.Signature.{Fit, wordOf, word-lt}
-use Rattle.distance.specs.Readings.{gap}
 
 -- the number of one bits in the exclusive or of two words
 unfoldable pub bitsApart : ℕ → ℕ → ℕ
@@ -23,24 +22,40 @@ wordGap a b k = bitsApart (wordOf a k) (wordOf b k)
 unfoldable pub masksApart : List ℕ → List ℕ → ℕ
 masksApart a b = sumTo 4 (wordGap a b)
 
+-- ---- one bit
+
+-- `differ` of two bits is 1 if they differ and 0 if not: their difference, whichever is larger
+differ-is : (x y : ℕ) → differ x y ≡ (x - y) + (y - x)
+differ-is zero y = omega arith
+differ-is (suc x) zero = omega arith
+differ-is (suc x) (suc y) = omega (arith, differ-is x y)
+
+differ-bit : (x y : ℕ) → differ (x % 2) (y % 2) < 2
+differ-bit x y = omega (arith, differ-is (x % 2) (y % 2))
+
+differ-over : (x y z : ℕ) → differ x z ≤ differ x y + differ y z
+differ-over x y z = omega (arith, differ-is x z, differ-is x y, differ-is y z)
+
 -- ---- one word
 
-differ-gap : (x y : ℕ) → differ x y ≡ gap x y
-differ-gap zero y = omega arith
-differ-gap (suc x) zero = omega arith
-differ-gap (suc x) (suc y) = omega (arith, differ-gap x y)
-
 -- the lowest bit, and the rest
-bits-step : (x y : ℕ) → bitsApart x y ≡ gap (x % 2) (y % 2) + bitsApart (x / 2) (y / 2)
+bits-step : (x y : ℕ) → bitsApart x y ≡ differ (x % 2) (y % 2) + bitsApart (x / 2) (y / 2)
 unfolding bitsApart
 bits-step x y =
-    let low : differ (x % 2) (y % 2) < 2 = omega (arith, differ-gap (x % 2) (y % 2)) in
     ap ones (xor-step x y)
     ∙ ones-step _
     ∙ ap₂
     (λ (p q : ℕ). p + ones q)
-    (digits-mod (bitXor (x / 2) (y / 2)) low ∙ differ-gap (x % 2) (y % 2))
-    (digits-div (bitXor (x / 2) (y / 2)) low)
+    (digits-mod (bitXor (x / 2) (y / 2)) (differ-bit x y))
+    (digits-div (bitXor (x / 2) (y / 2)) (differ-bit x y))
+
+-- where the words without their lowest bits keep the law over a third, so do the words
+bits-over-step :
+    (x y z : ℕ)
+    → bitsApart (x / 2) (z / 2) ≤ bitsApart (x / 2) (y / 2) + bitsApart (y / 2) (z / 2)
+    → bitsApart x z ≤ bitsApart x y + bitsApart y z
+bits-over-step x y z rest =
+    omega (arith, bits-step x z, bits-step x y, bits-step y z, differ-over (x % 2) (y % 2) (z % 2))
 
 bits-self : (x : ℕ) → bitsApart x x ≡ 0
 unfolding bitsApart ones
@@ -55,7 +70,7 @@ bits-over-from-zero y =
     bin-ind
     (λ (n : ℕ). (z : ℕ) → bitsApart 0 z ≤ bitsApart 0 n + bitsApart n z)
     (λ z. omega arith)
-    (λ n rest z. omega (arith, rest (z / 2), bits-step 0 z, bits-step 0 n, bits-step n z))
+    (λ n rest z. bits-over-step 0 n z (rest (z / 2)))
     y
 
 bits-over : (x y z : ℕ) → bitsApart x z ≤ bitsApart x y + bitsApart y z
@@ -63,7 +78,7 @@ bits-over x =
     bin-ind
     (λ (n : ℕ). (y z : ℕ) → bitsApart n z ≤ bitsApart n y + bitsApart y z)
     bits-over-from-zero
-    (λ n rest y z. omega (arith, rest (y / 2) (z / 2), bits-step n z, bits-step n y, bits-step y z))
+    (λ n rest y z. bits-over-step n y z (rest (y / 2) (z / 2)))
     x
 
 -- words of w bits differ in at most w bits

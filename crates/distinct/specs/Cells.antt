@@ -1,6 +1,6 @@
--- The cells after the first n keys were seated: each of these keys is found again, and nothing else stands there.
--- So a key that takes an empty cell is new, and one that is met was there before. This holds whatever cells a key
--- looks at: place k d is the one that key k looks at after d others. Assumes nothing.
+-- Loop: The cells after the first n keys were seated: each of these keys is found again, and nothing else stands
+-- there. So a key that takes an empty cell is new, and one that is met was there before. This holds whatever cells a
+-- key looks at: place k d is the one that key k looks at after d others. Assumes nothing.
 use Prim.Native.Nat.{ℕ, zero, suc, _+_, _≤_, _<_}
 use mathlib.Core.Path.{_≡_, refl, sym, ap, _∙_}
 use mathlib.Core.Bool.{Bool, true, false}
@@ -169,7 +169,7 @@ module _
 
 -- ---- the first n keys, of which key i is f i
 
-pub record Holds (place : ℕ → ℕ → ℕ) (f : ℕ → ℕ) (n : ℕ) (cells : List ℕ) : Type 0 where
+pub record CellsHold (place : ℕ → ℕ → ℕ) (f : ℕ → ℕ) (n : ℕ) (cells : List ℕ) : Type 0 where
   -- they are distinct
   pub apart : distinctTo n f ≡ true
   -- a cell that is not empty holds one of them
@@ -183,7 +183,7 @@ pub record Holds (place : ℕ → ℕ → ℕ) (f : ℕ → ℕ) (n : ℕ) (cell
 pub holds-none :
     (place : ℕ → ℕ → ℕ) (f : ℕ → ℕ) (m : ℕ)
     → ((key d : ℕ) → place key d < m)
-    → Holds place f 0 (replicate m 0)
+    → CellsHold place f 0 (replicate m 0)
 holds-none place f m room =
     record {
       apart = distinct-none f;
@@ -192,10 +192,10 @@ holds-none place f m room =
       room = λ key d. rw length-replicate (room key d);
     }
 
-module _ {place : ℕ → ℕ → ℕ} {f : ℕ → ℕ} {n : ℕ} {cells : List ℕ} (H : Holds place f n cells) where
+module _ {place : ℕ → ℕ → ℕ} {f : ℕ → ℕ} {n : ℕ} {cells : List ℕ} (H : CellsHold place f n cells) where
   -- a key of 0 leaves the cells as they were
   holds-zero :
-      {after : List ℕ} → Takes probes 0 (place (f n)) cells (f n) after → f n ≡ 0 → Holds place f (n + 1) after
+      {after : List ℕ} → Takes probes 0 (place (f n)) cells (f n) after → f n ≡ 0 → CellsHold place f (n + 1) after
   holds-zero {after} t z = rw same kept
     where
       same : after ≡ cells
@@ -203,7 +203,7 @@ module _ {place : ℕ → ℕ → ℕ} {f : ℕ → ℕ} {n : ℕ} {cells : List
           let x = place (f n) (t .far) in
           t .after-is ∙ ap (λ (v : ℕ). set cells x v) (z ∙ sym (t .empty)) ∙ set-getD cells x 0
 
-      kept : Holds place f (n + 1) cells
+      kept : CellsHold place f (n + 1) cells
       kept =
           record {
             apart = distinct-more n f (H .apart) (λ b l h e. omega arith);
@@ -214,7 +214,7 @@ module _ {place : ℕ → ℕ → ℕ} {f : ℕ → ℕ} {n : ℕ} {cells : List
 
   -- any other that takes a cell is new, and is held from then on
   holds-more :
-      {after : List ℕ} → Takes probes 0 (place (f n)) cells (f n) after → 1 ≤ f n → Holds place f (n + 1) after
+      {after : List ℕ} → Takes probes 0 (place (f n)) cells (f n) after → 1 ≤ f n → CellsHold place f (n + 1) after
   holds-more {after} t h =
       record {
         apart = distinct-more n f (H .apart) (λ b l _ e. new b l e);
@@ -252,13 +252,13 @@ module _ {place : ℕ → ℕ → ℕ} {f : ℕ → ℕ} {n : ℕ} {cells : List
     says-so = rw e (says (place (f n)) cells (f n) probes 0)
 
     -- a key that takes an empty cell is 0 or new
-    pub holds-fresh : s .seat ≡ Fresh → Holds place f (n + 1) (s .cells)
+    pub holds-fresh : s .seat ≡ Fresh → CellsHold place f (n + 1) (s .cells)
     unfolding Says
     holds-fresh q = by (rw q at says-so) (eqb (f n) 0) refl
       where
         by :
             Takes probes 0 (place (f n)) cells (f n) (s .cells)
-            → (b : Bool) → eqb (f n) 0 ≡ b → Holds place f (n + 1) (s .cells)
+            → (b : Bool) → eqb (f n) 0 ≡ b → CellsHold place f (n + 1) (s .cells)
         by t true z = holds-zero t (eqb-true (f n) 0 z)
         by t false z = holds-more t (omega (arith, eqb-false (f n) 0 z))
 

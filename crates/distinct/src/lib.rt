@@ -2,11 +2,10 @@
 ghost use mathlib.Core.Path.{_≡_};
 ghost use Prim.Native.Nat.{_≤_, _<_};
 ghost use lib.ListN.{length, getD};
-ghost use Rattle.distinct.specs.Distinct.{mostKeys, distinctTo};
+ghost use Rattle.refusals.specs.Limits.{mostRecords};
+ghost use Rattle.distinct.specs.Distinct.{distinctTo};
 ghost use Rattle.distinct.specs.Seat.{Seated, cellCount, startOf, seated};
-
-// A table has at most this many records.
-const KEYS: usize = 1024;
+use refusals::limit::RECORDS;
 
 // How many cells there are, four for a key, and how many of them a key looks at.
 pub const CELLS: usize = 4096;
@@ -51,11 +50,11 @@ pub fn seat_key(cells: &mut [u32; CELLS], key: u32) -> Seat
 
 // Are the keys all different, 0 aside? By sorting: the first m kept are those of the first i keys that are not 0.
 pub fn by_order(keys: &[u32]) -> bool
-    requires { ⌜ length (now keys) ≤ mostKeys ⌝ }
+    requires { ⌜ length (now keys) ≤ mostRecords ⌝ }
     ensures { λ r. ⌜ r ≡ distinctTo (length (now (keys .entry))) (λ i. getD (now (keys .entry)) i 0) ⌝ }
 {
-    let mut kept = [0u64; KEYS];
-    let mut room = [0u64; KEYS];
+    let mut kept = [0u64; RECORDS];
+    let mut room = [0u64; RECORDS];
     let mut m = 0;
     for i in 0..keys.len() {
         let key = keys[i];

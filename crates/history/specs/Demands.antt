@@ -1,6 +1,6 @@
 -- What the paper asks, as definitions: of a table after a history (`Holds`), of an accepted search (`Finds`), and of
 -- the refusals of a call (`Refuses`).
-use Prim.Native.Nat.{ℕ, _*_, _≤_}
+use Prim.Native.Nat.{ℕ, _≤_}
 use mathlib.Core.Path.{_≡_}
 use mathlib.Core.Logic.{_↔_}
 use mathlib.Core.List.{List, map, List·Memᴰ}
@@ -10,11 +10,12 @@ use Rattle.distance.specs.Signature.{readingsAt}
 use Rattle.distance.specs.Kind.{apart}
 use Rattle.table.specs.Record.{recordOf}
 use Rattle.table.specs.Table.{recordsIn}
+use Rattle.table.specs.Stands.{AreRecords}
 use Rattle.judge.specs.WellFormed.{WellFormed}
 use Rattle.tree.specs.Slots.{_∈_, Distinct}
 use Rattle.refusals.specs.Refusal.{Test, firstOf, done}
-use Rattle.view.specs.Place.{Newcomer}
-use Rattle.view.specs.Stored.{Stored}
+use Rattle.newcomer.specs.Newcomer.{Newcomer}
+use Rattle.placing.specs.Stored.{Stored}
 use Rattle.view.specs.Sound.{SoundTable}
 use Rattle.search.specs.Search.{Outcome}
 use Rattle.search.specs.Laws.{comparedSlots}
@@ -28,7 +29,7 @@ cardsOf stored = map (λ (x : Newcomer). x .card) stored
 
 -- a table of n records, and the cards that are stored according to the calls
 pub record Holds (n : ℕ) (st : State) : Type 0 where
-  pub size : length (st .table) ≡ n * 64
+  pub size : AreRecords (st .table) n
   pub bytes : Bytes (st .table)
   pub well-formed : WellFormed n (recordOf (st .table))
   pub sound : SoundTable n (recordOf (st .table))

@@ -14,7 +14,7 @@ use Rattle.distance.specs.Signature.{readingsAt}
 use Rattle.distance.specs.Kind.{apart}
 use Rattle.distance.specs.Readings.{readingsApart}
 use Rattle.distance.specs.Edges.{P10 as readings-apart, P11 as masks-apart}
-use Rattle.order.specs.Order.{inOrder, placed as placedKey}
+use Rattle.order.specs.Order.{inOrder, putAmong}
 use Rattle.table.specs.Record.{Record, free, recordOf}
 use Rattle.table.specs.Table.{at, recordsOf}
 use Rattle.table.specs.Size.{rows-are}
@@ -26,10 +26,11 @@ use Rattle.tree.specs.View.{distanceCount, childCounts}
 use Rattle.tree.specs.View.Under.{under}
 use Rattle.tree.specs.Slots.{keep}
 use Rattle.tree.specs.Remove.{except}
-use Rattle.tree.specs.Search.{visit, turn, visited, bound, enters, least, listed}
+use Rattle.tree.specs.Search.{visit, turn, isVisited, bound, enters, least, listed}
 use Rattle.tree.specs.Insert.{path, last, nearest, onward, hangs}
 use Rattle.view.specs.Refusal.{otherKind}
-use Rattle.view.specs.Place.{Newcomer, placed, asRoot, hanging, hangingFrom, raisedAlong, raised, adopting, fresh}
+use Rattle.placing.specs.Place.{placed, asRoot, hanging, hangingFrom, raisedAlong}
+use Rattle.newcomer.specs.Newcomer.{Newcomer, raised, adopting, fresh}
 use Rattle.insert.specs.Insert.{rightArguments}
 use Rattle.search.specs.Search.{entered, cards, distances}
 use Rattle.delete.specs.Delete.{deleted, putBack, waiting, leaving, removed, freedAt, unhung, disowning, clockWouldPass}
@@ -139,8 +140,8 @@ unfolding reportsOn reportOn afterOn runOn
     rightArguments otherKind clockWouldPass readingsAt numberAt
     placed asRoot hanging hangingFrom raisedAlong raised adopting fresh path last nearest onward hangs keep
     firstFrom usedIn countTo rootOf kindOf slotOfCard lowestFree largestTimestamp distanceCount childCounts
-    apart readingsApart sumTo cards entered distances visit turn visited bound enters least listed
-    deleted putBack waiting leaving removed freedAt unhung disowning under except inOrder placedKey flatMap
+    apart readingsApart sumTo cards entered distances visit turn isVisited bound enters least listed
+    deleted putBack waiting leaving removed freedAt unhung disowning under except inOrder putAmong flatMap
     storedAfter storedOn without checkOn reradius isSound allCovered allNear allIn
     wellFormed isFree isFilled pastCount allFormed distinct oneKind oneRoot allHung allOwned allRising allTo
 on-rows = (refl, refl, refl, refl, refl, refl)

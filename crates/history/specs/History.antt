@@ -1,16 +1,17 @@
 -- A history: calls on one table that starts cleared, accepted or refused, in any order, with any arguments.
 -- The stored cards are read from the calls alone: "each with the kind and signature that its accepted insert brought,
 -- until its accepted delete or a clear".
-use Prim.Native.Nat.{ℕ, _*_, _^_, _<_}
+use Prim.Native.Nat.{ℕ, _^_, _<_}
 use mathlib.Core.List.{List, [], _∷_}
 use lib.Dec.{eqb}
-use lib.ListN.{replicate, take}
+use lib.ListN.{take}
 use Rattle.places.specs.Choice.{pick}
 use Rattle.number.specs.Frame.{Bytes}
 use Rattle.distance.specs.Signature.{readingsAt}
+use Rattle.table.specs.Table.{freeTable}
 use Rattle.table.specs.Clear.{clearOf}
 use Rattle.refusals.specs.Refusal.{done}
-use Rattle.view.specs.Place.{Newcomer}
+use Rattle.newcomer.specs.Newcomer.{Newcomer}
 use Rattle.insert.specs.Insert.{insertOf}
 use Rattle.refusals.specs.Outcome.{Outcome}
 use Rattle.delete.specs.Delete.{deleteOf}
@@ -40,7 +41,7 @@ pub record State : Type 0 where
 
 -- a cleared table of n records stores nothing
 unfoldable pub cleared : ℕ → State
-cleared n = record { table = replicate (n * 64) 0; stored = [] }
+cleared n = record { table = freeTable n; stored = [] }
 
 -- the stored cards without this one
 unfoldable pub without : ℕ → List Newcomer → List Newcomer

@@ -1,25 +1,25 @@
 -- Where that holds which is asked of a table after every history (`Holds`): in a cleared table, and in the bytes of a
 -- row of records that they hold (`table-holds`). Assumes nothing.
-use Prim.Native.Nat.{ℕ, _*_, _≤_}
+use Prim.Native.Nat.{ℕ, _≤_}
 use mathlib.Core.Path.{_≡_, ap, subst, _∙_}
 use mathlib.Core.Bool.{true}
 use mathlib.Core.Logic.{_↔_}
 use mathlib.Core.List.{List, [], List·Memᴰ, List·Memᴰ·not-nil}
 use native.Mathlib.Omega.{arith}
-use lib.ListN.{length, replicate, length-replicate}
+use lib.ListN.{length, replicate}
 use Rattle.places.specs.Fill.{zeros-at}
 use Rattle.number.specs.Frame.{Bytes}
 use Rattle.table.specs.Record.{Record, Used, recordOf}
 use Rattle.refusals.specs.Limits.{mostRecords}
-use Rattle.table.specs.Table.{rightSize, recordsIn, recordsOf, at, bytesOf}
-use Rattle.table.specs.Same.{all-free}
+use Rattle.table.specs.Table.{rightSize, recordsIn, freeTable, recordsOf, at, bytesOf}
+use Rattle.table.specs.Stands.{AreRecords, WholeRecords, are-in, are-whole, whole-are, are-right, free-are}
+use Rattle.table.specs.Same.{free-table, free-bytes}
 use Rattle.table.specs.Records.{records-at}
-use Rattle.table.specs.Size.{right-size}
 use Rattle.table.specs.RoundTrip.{FittingRow, row-fits, bytesOf-length, bytesOf-bytes}
 use Rattle.judge.specs.WellFormed.{WellFormed}
 use Rattle.tree.specs.Slots.{Distinct}
-use Rattle.view.specs.Place.{Newcomer}
-use Rattle.view.specs.Stored.{Stored}
+use Rattle.newcomer.specs.Newcomer.{Newcomer}
+use Rattle.placing.specs.Stored.{Stored}
 use Rattle.view.specs.Formed.{free-formed}
 use Rattle.view.specs.Sound.{SoundTable}
 use Rattle.history.specs.History.{State, cleared}
@@ -30,16 +30,15 @@ use Rattle.history.specs.Demands.{Holds, cardsOf}
 pub zeros-bytes : (m : ℕ) → Bytes (replicate m 0)
 zeros-bytes m i = omega (arith, zeros-at m i)
 
-pub zeros-hold : (n : ℕ) → Holds n (record { table = replicate (n * 64) 0; stored = [] })
+pub zeros-hold : (n : ℕ) → Holds n (record { table = freeTable n; stored = [] })
 zeros-hold n =
-    let l : List ℕ = replicate (n * 64) 0 in
-    let size : length l ≡ n * 64 = length-replicate {A = ℕ} (n * 64) 0 in
-    let wf : WellFormed n (recordOf l) = free-formed (λ s b. all-free (n * 64) s) in
+    let l = freeTable n in
+    let wf : WellFormed n (recordOf l) = free-formed (λ s b. free-table n s) in
     let unused : (s : ℕ) → Used (recordOf l s) → ⊥ =
-    λ s u. omega (arith, ap (λ (r : Record). r .card) (all-free (n * 64) s)) in
+    λ s u. omega (arith, ap (λ (r : Record). r .card) (free-table n s)) in
     record {
-      size = size;
-      bytes = zeros-bytes (n * 64);
+      size = free-are n;
+      bytes = free-bytes n;
       well-formed = wf;
       sound =
           record {
@@ -62,10 +61,10 @@ cleared-holds n = zeros-hold n
 
 -- no call refuses such a table for its size
 pub sized : {n : ℕ} {st : State} → 1 ≤ n → n ≤ mostRecords → Holds n st → rightSize (length (st .table)) ≡ true
-sized {n} some small h = rw (h .size) (right-size n some small)
+sized {n} {st} some small h = are-right (st .table) n (h .size) some small
 
 pub records-are : {n : ℕ} {st : State} → Holds n st → recordsIn (st .table) ≡ n
-records-are h = omega (arith, h .size)
+records-are {n} {st} h = are-in (st .table) n (h .size)
 
 -- ---- a table that a call leaves: the bytes of a row of records, and they hold that row
 
@@ -81,10 +80,10 @@ pub table-holds :
 table-holds {n} t rows stored is back e ok each once =
     let bytes : Bytes t = rw is (bytesOf-bytes rows) in
     let fit : FittingRow rows = subst FittingRow back (row-fits t bytes) in
-    let long : length t ≡ length rows * 64 = ap length is ∙ bytesOf-length rows fit in
-    let same : at (recordsOf t) ≡ recordOf t = λ i s. records-at t (omega arith) s i in
+    let whole : WholeRecords t = are-whole t (length rows) (rw is (bytesOf-length rows fit)) in
+    let same : at (recordsOf t) ≡ recordOf t = λ i s. records-at t whole s i in
     record {
-      size = omega arith;
+      size = subst (AreRecords t) e (whole-are t whole);
       bytes = bytes;
       well-formed = subst (WellFormed n) same (ok .well-formed);
       sound = subst (SoundTable n) same ok;

@@ -1,7 +1,7 @@
 -- Every call, accepted or refused, keeps what holds of a history's table and stored cards (`after-holds`), and so that
 -- holds after every history (`run-holds`). From what insert and delete promise of their outcomes, which their contracts
 -- equate with what the code does. Assumes nothing.
-use Prim.Native.Nat.{ℕ, _*_, _^_, _≤_, _<_}
+use Prim.Native.Nat.{ℕ, _^_, _≤_, _<_}
 use mathlib.Core.Path.{_≡_, sym, ap, subst, _∙_}
 use mathlib.Core.Bool.{true}
 use mathlib.Core.Logic.{_↔_, _⊎_, inl, inr}
@@ -13,13 +13,15 @@ use Rattle.number.specs.Frame.{Bytes}
 use Rattle.table.specs.Record.{recordOf}
 use Rattle.refusals.specs.Limits.{mostRecords}
 use Rattle.table.specs.Table.{rightSize, recordsIn, recordsOf, at}
+use Rattle.table.specs.Stands.{are-free}
 use Rattle.table.specs.Size.{rows-are}
 use Rattle.table.specs.Clear.{clear-done}
 use Rattle.survey.specs.Survey.{slotOfCard}
-use Rattle.tree.specs.Slots.{_∈_, Distinct, either, image-from, image-to}
+use Rattle.tree.specs.Slots.{_∈_, Distinct, image-from, image-to}
+use Rattle.places.specs.Cases.{either}
 use Rattle.refusals.specs.Refusal.{done}
-use Rattle.view.specs.Place.{Newcomer}
-use Rattle.view.specs.Stored.{Stored, brought-card}
+use Rattle.newcomer.specs.Newcomer.{Newcomer, brought-card}
+use Rattle.placing.specs.Stored.{Stored}
 use Rattle.insert.specs.Insert.{inserted, insertOf}
 use Rattle.insert.specs.Accepted.{comer, accepted-ready}
 use Rattle.insert.specs.Promises as Inserts
@@ -166,8 +168,7 @@ module _ (st : State) (card arity : ℕ) (right : rightSize (length (st .table))
 clear-holds : (n : ℕ) (st : State) → rightSize (length (st .table)) ≡ true → Holds n st → Holds n (after clear st)
 unfolding after
 clear-holds n st right h =
-    let bytes : length (st .table) ≡ n * 64 = h .size in
-    rw (clear-done (st .table) right, bytes) (zeros-hold n)
+    rw (clear-done (st .table) right, are-free (st .table) n (h .size)) (zeros-hold n)
 
 -- ---- every call
 

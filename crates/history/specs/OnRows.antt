@@ -1,7 +1,7 @@
 -- A history told on rows of records, so that it can be computed: what each call reports, the records that it leaves and
 -- the cards then stored come out of the records alone (`reports-on`, `run-on`, `stored-after`). The key idea: after a
 -- history the tests of size and table are passed, and all else that a call looks at is in the records. Assumes nothing.
-use Prim.Native.Nat.{ℕ, _*_, _^_, _≤_, _<_}
+use Prim.Native.Nat.{ℕ, _^_, _≤_, _<_}
 use mathlib.Core.Path.{_≡_, refl, sym, ap, ap₂, _∙_}
 use mathlib.Core.Bool.{true, _&&_, not}
 use mathlib.Core.List.{List, [], _∷_}
@@ -16,10 +16,11 @@ use Rattle.distance.specs.Signature.{readingsAt}
 use Rattle.distance.specs.Kind.{apart, knownKind}
 use Rattle.table.specs.Record.{Record, free, recordOf}
 use Rattle.refusals.specs.Limits.{mostRecords, knownArity, lastTimestamp}
-use Rattle.table.specs.Table.{rightSize, recordsIn, recordsOf, at}
+use Rattle.table.specs.Table.{rightSize, recordsIn, freeTable, recordsOf, at}
 use Rattle.table.specs.Put.{putRadius, withRadius}
 use Rattle.table.specs.Laws.{put-radius}
-use Rattle.table.specs.Same.{all-free}
+use Rattle.table.specs.Stands.{are-in, are-stands, free-are, are-free}
+use Rattle.table.specs.Same.{free-table}
 use Rattle.table.specs.Records.{records-length, records-in}
 use Rattle.table.specs.Size.{rows-are}
 use Rattle.table.specs.Clear.{clear-done}
@@ -28,8 +29,10 @@ use Rattle.judge.specs.Decided.{formed-decided}
 use Rattle.survey.specs.Survey.{usedIn, slotOfCard, lowestFree, largestTimestamp}
 use Rattle.refusals.specs.Refusal.{TABLE, ARGUMENT, KIND, TWICE, ABSENT, FULL, CLOCK, SHORT, LOOSE, firstOf, done}
 use Rattle.view.specs.Refusal.{otherKind}
-use Rattle.view.specs.Place.{Newcomer, Placed, placed}
-use Rattle.insert.specs.Insert.{changed, inserted, rightArguments}
+use Rattle.placing.specs.Place.{Placed, placed}
+use Rattle.newcomer.specs.Newcomer.{Newcomer}
+use Rattle.insert.specs.Insert.{inserted, rightArguments}
+use Rattle.placing.specs.Changed.{changed}
 use Rattle.refusals.specs.Outcome.{refused}
 use Rattle.insert.specs.Insert as Insert
 use Rattle.insert.specs.Accepted.{comer}
@@ -148,15 +151,15 @@ storedAfter (c ∷ cs) rows xs = storedAfter cs (afterOn c rows) (storedOn c row
 
 -- ---- a cleared table
 
-pub zeros-rows : (n : ℕ) → recordsOf (replicate (n * 64) 0) ≡ replicate n free
+pub zeros-rows : (n : ℕ) → recordsOf (freeTable n) ≡ replicate n free
 zeros-rows n =
-    let l : List ℕ = replicate (n * 64) 0 in
-    let long : recordsIn l ≡ n = omega (arith, length-replicate {A = ℕ} (n * 64) 0) in
+    let l = freeTable n in
+    let long : recordsIn l ≡ n = are-in l n (free-are n) in
     ext-getD free (recordsOf l) (replicate n free)
     (records-length l ∙ long ∙ sym (length-replicate n free))
     (λ s p.
     let b : s < n = omega (arith, records-length l) in
-    records-in l s (omega arith) ∙ all-free (n * 64) s ∙ sym (getD-replicate n s free free b))
+    records-in l s (omega arith) ∙ free-table n s ∙ sym (getD-replicate n s free free b))
 
 pub cleared-rows : (n : ℕ) → recordsOf (cleared n .table) ≡ replicate n free
 unfolding cleared
@@ -228,8 +231,7 @@ module _ {m : ℕ} (some : 1 ≤ m) (small : m ≤ mostRecords) {st : State} (h 
   pub after-on : (c : Call) → Typed c → recordsOf (after c st .table) ≡ afterOn c (recordsOf (st .table))
   unfolding after afterOn changed refused
   after-on clear typed =
-      let long : length l ≡ m * 64 = h .size in
-      rw (clear-done l size, long, records-length l, records-are h) (zeros-rows m)
+      rw (clear-done l size, are-free l m (h .size), records-length l, records-are h) (zeros-rows m)
   after-on (insert card kind arity s) typed = elim (ℕ-discrete (Insert.refusalOf l card kind arity s) done) [
     | yes e ↦
         rw (← insert-same card kind arity s, e)
@@ -328,7 +330,7 @@ pub check-reradius :
 unfolding reradius
 check-reradius {m} {st} some small h s v b fits =
     let l = st .table in
-    let new = put-radius l s (omega (arith, h .size)) v fits in
+    let new = put-radius l s (are-stands l m s (h .size) b) v fits in
     let right = sized some small h in
     let long : length (putRadius l s v) ≡ length l = new .same-length in
     check-on (putRadius l s v) (rw long right)

@@ -12,7 +12,8 @@ use Rattle.table.specs.Table.{rightSize, recordsIn, recordsOf, bytesOf}
 use Rattle.table.specs.Clear.{clearOf, clear-done, clear-refused}
 use Rattle.survey.specs.Survey.{slotOfCard}
 use Rattle.refusals.specs.Refusal.{SIZE, done, firstOf}
-use Rattle.insert.specs.Insert.{changed, inserted, insertOf}
+use Rattle.insert.specs.Insert.{inserted, insertOf}
+use Rattle.placing.specs.Changed.{changed}
 use Rattle.refusals.specs.Outcome.{Outcome, refused}
 use Rattle.insert.specs.Insert as Insert
 use Rattle.delete.specs.Delete.{deleted, deleteOf}

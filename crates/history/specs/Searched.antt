@@ -20,10 +20,9 @@ use Rattle.tree.specs.Slots.{_∈_, Distinct, distinct-length, flatMap-from, im
 use Rattle.tree.specs.View.{compared, Formed}
 use Rattle.view.specs.View.{viewOf}
 use Rattle.refusals.specs.Refusal.{done}
-use Rattle.view.specs.Place.{Newcomer}
+use Rattle.newcomer.specs.Newcomer.{Newcomer, brought, brought-card}
 use Rattle.view.specs.Shaped.{Shaped, shaped-bytes}
 use Rattle.view.specs.Formed.{formed-view, used-within}
-use Rattle.view.specs.Stored.{brought, brought-card}
 use Rattle.search.specs.Search.{entered, cards, listing, refusalOf, searchOf}
 use Rattle.search.specs.Tests.{accepted}
 use Rattle.search.specs.Listing.{cards-fit}

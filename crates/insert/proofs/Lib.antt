@@ -1,5 +1,2 @@
-mod Writes
-mod Walking
-mod Hanging
-mod Placing
+-- What the proofs of the functions cite.
 mod Calling

@@ -22,15 +22,17 @@ use Rattle.judge.specs.WellFormed.{WellFormed}
 use Rattle.survey.specs.Survey.{lowestFree, largestTimestamp}
 use Rattle.refusals.specs.Refusal.{done}
 use Rattle.view.specs.Sound.{SoundTable}
-use Rattle.view.specs.Stored.{Stored, settled-stored}
-use Rattle.view.specs.Place.{Newcomer, placed}
-use Rattle.view.specs.Place.Settled.{Ready}
-use Rattle.view.specs.Place.Keeps.{placed-length, placed-settled, placed-sound-table}
-use Rattle.insert.specs.Insert.{changed, refusalOf, inserted, insertOf}
+use Rattle.placing.specs.Stored.{Stored, settled-stored}
+use Rattle.placing.specs.Place.{placed}
+use Rattle.newcomer.specs.Newcomer.{Newcomer}
+use Rattle.placing.specs.Place.Settled.{Ready}
+use Rattle.placing.specs.Place.Keeps.{placed-length, placed-settled, placed-sound-table}
+use Rattle.insert.specs.Insert.{refusalOf, inserted, insertOf}
+use Rattle.placing.specs.Changed.{changed}
 use Rattle.refusals.specs.Outcome.{Outcome, refused}
 use Rattle.refusals.specs.Limits.{lastTimestamp}
-use Rattle.insert.specs.Accepted.{comer, accepted-size, accepted-ready, accepted-clock}
-use Rattle.insert.specs.Fits.{placed-fits}
+use Rattle.insert.specs.Accepted.{comer, accepted-readable, accepted-ready, accepted-clock}
+use Rattle.placing.specs.RowsFit.{placed-fits}
 
 -- the record in each slot of a table
 abbrev pub tableOf : List ℕ → ℕ → Record
@@ -88,7 +90,7 @@ module _ (l : List ℕ) (card kind arity : ℕ) (s : List ℕ) where
     clock =
         subst
         (λ (R : ℕ → Record). largestTimestamp n R < lastTimestamp)
-        (sym (rows-are l (accepted-size l card kind arity s none)))
+        (sym (rows-are l (accepted-readable l card kind arity s none .size)))
         (accepted-clock l card kind arity s none)
 
     module _ (bytes : Bytes l) (signature : Bytes s) (number : card < 2 ^ 32) where

@@ -1,9 +1,4 @@
-// Insert (001, Algorithm 1): where a newcomer hangs, and the records that it changes.
+// Insert (001, Algorithm 1): the call, its refusals and then the placing.
 mod call;
-mod descend;
-mod place;
-mod record;
 
 pub use call::insert;
-pub use place::hang;
-pub use record::seat;

@@ -7,7 +7,7 @@ use lib.Dec.{ltb, eqb}
 use Rattle.places.specs.Choice.{pick, implies}
 use Rattle.places.specs.Test.{allTo, countTo}
 use Rattle.places.specs.Sum.{sumTo}
-use Rattle.distinct.specs.Distinct.{Distinct, distinctTo}
+use Rattle.distinct.specs.Distinct.{OnePlaceEach, distinctTo}
 use Rattle.table.specs.Record.{Record, Used, used, free, slot}
 use Rattle.judge.specs.WellFormed.{Filled, isFree, isFilled, isRoot, ifAny}
 
@@ -54,8 +54,8 @@ pub record Counted (n : ℕ) (R : ℕ → Record) : Type 0 where
   pub one-root : rootCount n R ≡ ifAny (usedCount n R)
   pub each-a-child : childCount n R + rootCount n R ≡ usedCount n R
   -- of the keys; a free record has 0 for both
-  pub cards : Distinct n (λ s. R s .card)
-  pub timestamps : Distinct n (λ s. R s .timestamp)
+  pub cards : OnePlaceEach n (λ s. R s .card)
+  pub timestamps : OnePlaceEach n (λ s. R s .timestamp)
 
 -- ---- the test
 

@@ -25,7 +25,7 @@ use Rattle.places.specs.Decides.{
   reworded,
   decides-same,
 }
-use Rattle.distinct.specs.Distinct.{Distinct, distinctTo, distinct-reads, reads-distinct}
+use Rattle.distinct.specs.Distinct.{OnePlaceEach, distinctTo, distinct-reads, reads-distinct}
 use Rattle.distance.specs.Kind.{known-between}
 use Rattle.table.specs.Record.{Record, Used, used, free, slot, noSlot}
 use Rattle.judge.specs.WellFormed.{Filled, Hung, Owned, WellFormed, ifAny, oneRoot, standing, wellFormed}
@@ -98,6 +98,20 @@ kinds-before R (suc s) least same a b u =
         sym (same s (omega arith) (used-decided (R s) .shows e) (λ z. omega (arith, least a b u))) ∙ k
     go false e earlier (inl q) = absurd (false≢true (sym e ∙ used-decided (R s) .passes (rw q at u)))
     go false e earlier (inr l) = earlier l u
+
+-- where no record is used, there is no kind before s
+pub kind-none : (R : ℕ → Record) (s : ℕ) → ((a : ℕ) → a < s → used (R a) ≡ false) → kindBefore R s ≡ 0
+unfolding kindBefore
+kind-none R zero none = refl
+kind-none R (suc s) none = rw (none s (omega arith)) (kind-none R s (λ a b. none a (omega arith)))
+
+-- in a well-formed table the last kind is the kind of every used record
+pub kind-all :
+    (n : ℕ) (R : ℕ → Record) → WellFormed n R → (a : ℕ) → a < n → Used (R a) → kindBefore R n ≡ R a .kind
+kind-all n R w =
+    kinds-before R n
+    (λ a b u. known-between (R a .kind) (w .filled a b u .kind-known) .0)
+    (λ s b u f. let k = kind-from R s f in k .3 ∙ w .kinds (k .0) s (omega (arith, k .1)) b (k .2) u)
 
 -- ---- timestamps
 
@@ -239,7 +253,7 @@ module _ (n : ℕ) (R : ℕ → Record) (small : n ≤ noSlot) where
 -- ---- the test decides it
 
 module _ (n : ℕ) (R : ℕ → Record) where
-  distinct-decided : (f : ℕ → ℕ) → Decides (distinctTo n f) (Distinct n f)
+  distinct-decided : (f : ℕ → ℕ) → Decides (distinctTo n f) (OnePlaceEach n f)
   distinct-decided f = record { shows = distinct-reads n f; passes = reads-distinct n f }
 
   linked-decided : (a : ℕ) → Decides (allLinked n R a) ((i : ℕ) → i < R a .count → Linked n R a i)

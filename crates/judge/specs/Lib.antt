@@ -7,8 +7,3 @@ pub mod Decided
 pub mod Counted
 pub mod Standing
 pub mod Counting
--- the code's loops
-pub mod Key
-pub mod Past
-pub mod Seen
-pub mod Pass

@@ -1,3 +1,5 @@
--- Numbers in lent bytes, low byte first: what they are, and what a write leaves as it was.
+-- Numbers in lent bytes, low byte first. Where to find what:
+-- Number     what the number in n bytes is, and bytes with a number written, at any width
+-- Frame      what a write changes and what it leaves: a number is read back, and another is as it was
 pub mod Number
 pub mod Frame

@@ -1,6 +1,8 @@
 -- A number in a row of bytes, low byte first, at any width ("Numbers are unsigned, low byte first").
--- The first byte stands at `at` and not at `at + 0`, so that each definition computes to what straight-line code leaves.
+-- The first byte stands at `at` and not at `at + 0`, so that each definition computes to what straight-line code
+-- leaves: the open forms, of which `open-number` and `open-write` say, at every width, that they are the shut ones.
 use Prim.Native.Nat.{ℕ, zero, suc, _+_, _*_, _/_, _%_}
+use mathlib.Core.Path.{_≡_, refl}
 use mathlib.Core.List.{List, [], _∷_}
 use lib.ListN.{getD, set}
 
@@ -19,6 +21,10 @@ openNumber (suc n) l at = getD l at 0 + 256 * numberFrom l at 1 n
 -- the number in the n bytes from `at` on
 unfoldable pub numberAt : ℕ → List ℕ → ℕ → ℕ
 numberAt n l at = openNumber n l at
+
+pub open-number : (n : ℕ) (l : List ℕ) (at : ℕ) → openNumber n l at ≡ numberAt n l at
+unfolding numberAt
+open-number n l at = refl
 
 -- ---- writing
 
@@ -40,3 +46,7 @@ written l at (b ∷ bs) = writtenFrom (set l at b) at 1 bs
 -- l with v in the n bytes from `at` on
 unfoldable pub withNumber : ℕ → List ℕ → ℕ → ℕ → List ℕ
 withNumber n l at v = written l at (digits n v)
+
+pub open-write : (n : ℕ) (l : List ℕ) (at v : ℕ) → written l at (digits n v) ≡ withNumber n l at v
+unfolding withNumber
+open-write n l at v = refl

@@ -1,4 +1,7 @@
--- Keys in rising order and keys told apart: the definitions, the laws of order, and what it is to be all different.
+-- Keys in rising order, and keys told apart. Where to find what:
+-- Order      the definitions: in order, how often a key stands, rising, all different
+-- InOrder    the laws of `inOrder`: it rises, has each key as often, and nothing else does both
+-- Distinct   all different, said three ways, and what sorting decides of it
 pub mod Order
 pub mod InOrder
 pub mod Distinct

@@ -34,7 +34,7 @@ pub extern "C" fn probe_judge(t: &[u8]) -> u32
 {
     if table::right_size(t) {
         let n = t.len() / RECORD;
-        if judge::well_formed(t, n) { 0 } else { 2 }
+        if admission::well_formed(t, n) { 0 } else { 2 }
     } else {
         1
     }

@@ -11,13 +11,14 @@ use native.Mathlib.Nat.{zero-add}
 use lib.ListN.{length, length-append}
 use lib.Seq.{sets}
 use borrow.Author.Tests.{eq-eqb, ne-eqb}
-use Rattle.number.specs.Frame.{Bytes, number-lt}
+use Rattle.number.specs.Frame.{Bytes}
 use Rattle.distance.specs.Laws.{farthest}
-use Rattle.distance.specs.Signature.{Fit, readings-fit}
+use Rattle.distance.specs.Signature.{Fit}
 use Rattle.distance.specs.Kind.{apart, apart-distance}
-use Rattle.table.specs.Record.{Record, recordOf, timestampAt, signatureAt}
+use Rattle.table.specs.Record.{Record, recordOf}
 use Rattle.table.specs.Table.{recordsIn}
 use Rattle.table.specs.Size.{whole}
+use Rattle.table.specs.RoundTrip.{record-fits}
 use Rattle.survey.specs.Survey.{usedIn, rootOf}
 use Rattle.survey.specs.Laws.{usedIn-most}
 use Rattle.tree.specs.Slots.{keep}
@@ -40,8 +41,7 @@ use Rattle.view.specs.Readable.{readable-seen}
 
 -- four bytes hold no timestamp that the walk's first bound cuts off
 pub unbounded : (l : List ℕ) → Bytes l → Late (viewOf (recordOf l)) noBound
-unfolding recordOf
-unbounded l h a u = number-lt 4 l (timestampAt a) h
+unbounded l h a u = record-fits l a h .timestamp
 
 -- ---- the walk
 
@@ -130,9 +130,8 @@ pub walk-entered :
     → 1 ≤ usedIn n (recordOf l)
     → enteredFrom (asked (recordOf l) kind q r) (usedIn n (recordOf l)) (rootOf n (recordOf l)) noBound
     ≡ entered n (recordOf l) kind q r
-unfolding recordOf
 walk-entered l q n kind r h f some =
-    let fits : (a : ℕ) → Fit (recordOf l a .readings) = λ a. readings-fit l (signatureAt a) h in
+    let fits : (a : ℕ) → Fit (recordOf l a .readings) = λ a. record-fits l a h .readings in
     visitFrom-farthest (apart kind) (viewOf (recordOf l)) q r (apart-distance kind) f fits farthest (omega arith) _ _ _
     ∙ sym (entered-some n (recordOf l) kind q r some)
 

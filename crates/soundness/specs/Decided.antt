@@ -16,7 +16,8 @@ use Rattle.table.specs.Record.{Record, Used, used, children}
 use Rattle.refusals.specs.Limits.{mostRecords}
 use Rattle.judge.specs.WellFormed.{WellFormed}
 use Rattle.survey.specs.Survey.{usedIn, rootOf, kindOf}
-use Rattle.tree.specs.Slots.{_∈_, either, flatMap-from, flatMap-to}
+use Rattle.tree.specs.Slots.{_∈_, flatMap-from, flatMap-to}
+use Rattle.places.specs.Cases.{either}
 use Rattle.tree.specs.View.{usedCount, Below, down, Formed, Sound}
 use Rattle.tree.specs.View.Under.{under, under-is, under-from, under-to, used-shallow}
 use Rattle.view.specs.View.{viewOf}

@@ -16,7 +16,8 @@ use Rattle.table.specs.Record.{Record, Used, used, slot, noSlot, children}
 use Rattle.refusals.specs.Limits.{mostRecords}
 use Rattle.judge.specs.WellFormed.{WellFormed, eachUsed}
 use Rattle.survey.specs.Survey.{usedIn, kindOf}
-use Rattle.tree.specs.Slots.{_∈_, either}
+use Rattle.tree.specs.Slots.{_∈_}
+use Rattle.places.specs.Cases.{either}
 use Rattle.tree.specs.View.{usedCount, Below, here, down, Formed, Sound}
 use Rattle.tree.specs.View.Shape.{below-child, below-parent, below-hung, below-used}
 use Rattle.tree.specs.View.Under.{used-shallow}

@@ -127,7 +127,7 @@ pub fn check(t: &[u8]) -> u8
     if !table::right_size(t) {
         return SIZE;
     }
-    if !judge::well_formed(t, t.len() / RECORD) {
+    if !admission::well_formed(t, t.len() / RECORD) {
         return TABLE;
     }
     if !all_ok(t) {

@@ -4,7 +4,7 @@ use mathlib.Core.Path.{_≡_, refl, sym, _∙_}
 use mathlib.Core.Bool.{Bool, true, false, false≢true}
 use native.Mathlib.Omega.{arith}
 use Rattle.places.specs.Choice.{pick}
-use Rattle.table.specs.Cases.{below-or, equal-or}
+use Rattle.places.specs.Cases.{below-or, equal-or}
 use Rattle.survey.specs.Survey.{firstFrom}
 
 -- none of the places from s up to a passes

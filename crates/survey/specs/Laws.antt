@@ -7,7 +7,7 @@ use lib.Dec.{eqb}
 use borrow.Author.Tests.{leb-true, leb-false, le-leb, lt-leb, eqb-true, eqb-false, eq-eqb, ne-eqb, not-true, not-false}
 use Rattle.places.specs.Choice.{pick, and-left, and-right, and-both}
 use Rattle.places.specs.Test.{count-most}
-use Rattle.table.specs.Cases.{below-or, equal-or}
+use Rattle.places.specs.Cases.{below-or, equal-or}
 use Rattle.table.specs.Record.{Record, Used, used, noSlot}
 use Rattle.survey.specs.Survey.{firstFrom, usedIn, slotOfCard, lowestFree, rootOf, kindOf, largestTimestamp}
 use Rattle.survey.specs.First.{first-from, first-is}

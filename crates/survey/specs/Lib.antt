@@ -2,4 +2,5 @@
 pub mod Survey
 pub mod First
 pub mod Laws
+pub mod Answers
 pub mod Pass

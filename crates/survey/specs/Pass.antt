@@ -11,10 +11,7 @@ use Rattle.places.specs.Test.{countTo}
 use Rattle.table.specs.Record.{Record, used, noSlot}
 use Rattle.survey.specs.declared.Findings.{Findings}
 use Rattle.survey.specs.Survey.{firstFrom, usedIn, lowestFree, rootOf, kindOf, largestTimestamp}
-
--- the answers so far
-abbrev pub found : ℕ → ℕ → ℕ → ℕ → ℕ → Findings
-found u l g o k = record { used = u; lowest = l; largest = g; root = o; kind = k }
+use Rattle.survey.specs.Answers.{Answers, found}
 
 -- the record r in slot s is seen
 unfoldable pub noted : ℕ → Record → Findings → Findings
@@ -59,14 +56,6 @@ module _ (s : ℕ) (r : Record) (f : Findings) where
       rw
       (le-leb 1 (r .card) (omega arith), ne-eqb (r .parent) noSlot parent)
       (λ i. found (f .used + 1) (f .lowest) (el i) (f .root) (ek i))
-
--- the answers for n records
-pub record Answers (n : ℕ) (R : ℕ → Record) (f : Findings) : Type 0 where
-  pub used : f .used ≡ usedIn n R
-  pub lowest : f .lowest ≡ lowestFree n R
-  pub largest : f .largest ≡ largestTimestamp n R
-  pub root : f .root ≡ rootOf n R
-  pub kind : f .kind ≡ kindOf n R
 
 -- the records from k on are seen, and those before k are left
 pub record Passed (n : ℕ) (R : ℕ → Record) (k : ℕ) (f : Findings) : Type 0 where

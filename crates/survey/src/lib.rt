@@ -5,7 +5,8 @@ ghost use lib.ListN.{length};
 ghost use Rattle.table.specs.Record.{recordOf};
 ghost use Rattle.table.specs.Stands.{Stands, StandTo, AreRecords};
 ghost use Rattle.survey.specs.Survey.{slotOfCard};
-ghost use Rattle.survey.specs.Pass.{noted, Answers};
+ghost use Rattle.survey.specs.Pass.{noted};
+ghost use Rattle.survey.specs.Answers.{Answers};
 use table::NO_SLOT;
 
 // What one pass over a table finds: how many records are used, the lowest free slot, the largest timestamp in use,

@@ -5,6 +5,7 @@ use mathlib.Core.Bool.{true, false}
 use mathlib.Core.List.{List}
 use lib.ListN.{length, replicate}
 use Rattle.places.specs.Choice.{pick}
+use Rattle.refusals.specs.Refusal.{done, SIZE}
 use Rattle.table.specs.Table.{rightSize}
 
 -- what a clear leaves: its refusal number, 0 if done, and the table's bytes
@@ -16,13 +17,13 @@ abbrev pub cleared : ℕ → List ℕ → Cleared
 cleared n l = record { refusal = n; table = l }
 
 unfoldable pub clearOf : List ℕ → Cleared
-clearOf l = pick (rightSize (length l)) (cleared 0 (replicate (length l) 0)) (cleared 1 l)
+clearOf l = pick (rightSize (length l)) (cleared done (replicate (length l) 0)) (cleared SIZE l)
 
-pub clear-done : (l : List ℕ) → rightSize (length l) ≡ true → clearOf l ≡ cleared 0 (replicate (length l) 0)
+pub clear-done : (l : List ℕ) → rightSize (length l) ≡ true → clearOf l ≡ cleared done (replicate (length l) 0)
 unfolding clearOf
 clear-done l e = rw e
 
-pub clear-refused : (l : List ℕ) → rightSize (length l) ≡ false → clearOf l ≡ cleared 1 l
+pub clear-refused : (l : List ℕ) → rightSize (length l) ≡ false → clearOf l ≡ cleared SIZE l
 unfolding clearOf
 clear-refused l e = rw e
 

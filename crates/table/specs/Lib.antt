@@ -4,13 +4,16 @@ pub mod Record
 pub mod Table
 pub mod Put
 pub mod Clear
--- Laws: bytes and the records they hold, the right size, what each write does, and back again.
-pub mod Cases
+-- Which records stand in lent bytes, and where.
+pub mod Place
+pub mod Stands
+-- Laws: bytes and the record they hold, the records of a table, the right size, what each write does, and back again.
 pub mod Span
+pub mod Fields
 pub mod Same
 pub mod Records
 pub mod Size
-pub mod Stands
 pub mod Run
+pub mod Became
 pub mod Laws
 pub mod RoundTrip

@@ -3,31 +3,42 @@ use Prim.Native.Nat.{ℕ, zero, suc, _+_, _*_}
 use mathlib.Core.List.{List}
 use lib.ListN.{getD, set}
 use Rattle.number.specs.Number.{withNumber}
-use Rattle.table.specs.Record.{Record, cardAt, timestampAt, radiusAt, parentAt, countAt, kindAt, slotsAt, signatureAt, recordLength}
+use Rattle.table.specs.Record.{
+  Record,
+  recordLength,
+  timestampAt,
+  radiusAt,
+  parentAt,
+  countAt,
+  kindAt,
+  slotsAt,
+  signatureAt,
+  placeOf,
+}
 
 -- ---- in the bytes
 
 unfoldable pub putCard : List ℕ → ℕ → ℕ → List ℕ
-putCard l s v = withNumber 4 l (cardAt s) v
+putCard l s v = withNumber 4 l (placeOf s) v
 
 unfoldable pub putTimestamp : List ℕ → ℕ → ℕ → List ℕ
-putTimestamp l s v = withNumber 4 l (timestampAt s) v
+putTimestamp l s v = withNumber 4 l (timestampAt (placeOf s)) v
 
 unfoldable pub putRadius : List ℕ → ℕ → ℕ → List ℕ
-putRadius l s v = withNumber 4 l (radiusAt s) v
+putRadius l s v = withNumber 4 l (radiusAt (placeOf s)) v
 
 unfoldable pub putParent : List ℕ → ℕ → ℕ → List ℕ
-putParent l s v = withNumber 2 l (parentAt s) v
+putParent l s v = withNumber 2 l (parentAt (placeOf s)) v
 
 unfoldable pub putCount : List ℕ → ℕ → ℕ → List ℕ
-putCount l s v = set l (countAt s) v
+putCount l s v = set l (countAt (placeOf s)) v
 
 unfoldable pub putKind : List ℕ → ℕ → ℕ → List ℕ
-putKind l s v = set l (kindAt s) v
+putKind l s v = set l (kindAt (placeOf s)) v
 
 -- child slot i
 unfoldable pub putSlot : List ℕ → ℕ → ℕ → ℕ → List ℕ
-putSlot l s i v = withNumber 2 l (slotsAt s + 2 * i) v
+putSlot l s i v = withNumber 2 l (slotsAt (placeOf s) + 2 * i) v
 
 -- the first n of the readings vs, two bytes each from `at` on
 unfoldable pub putReadings : ℕ → List ℕ → ℕ → List ℕ → List ℕ
@@ -35,7 +46,7 @@ putReadings zero l at vs = l
 putReadings (suc n) l at vs = withNumber 2 (putReadings n l at vs) (at + 2 * n) (getD vs n 0)
 
 unfoldable pub putSignature : List ℕ → ℕ → List ℕ → List ℕ
-putSignature l s vs = putReadings 16 l (signatureAt s) vs
+putSignature l s vs = putReadings 16 l (signatureAt (placeOf s)) vs
 
 -- the first n bytes from `at` on made zero
 unfoldable pub zeroed : ℕ → List ℕ → ℕ → List ℕ
@@ -44,7 +55,7 @@ zeroed (suc n) l at = set (zeroed n l at) (at + n) 0
 
 -- the record made free
 unfoldable pub freed : List ℕ → ℕ → List ℕ
-freed l s = zeroed recordLength l (cardAt s)
+freed l s = zeroed recordLength l (placeOf s)
 
 -- ---- in the record
 
@@ -80,9 +91,12 @@ withCount r v = parts (r .card) (r .timestamp) (r .radius) (r .parent) v (r .kin
 abbrev pub withKind : Record → ℕ → Record
 withKind r v = parts (r .card) (r .timestamp) (r .radius) (r .parent) (r .count) v (r .slots) (r .readings)
 
+abbrev pub withSlots : Record → List ℕ → Record
+withSlots r ss = parts (r .card) (r .timestamp) (r .radius) (r .parent) (r .count) (r .kind) ss (r .readings)
+
+-- child slot i
 abbrev pub withSlot : Record → ℕ → ℕ → Record
-withSlot r i v =
-    parts (r .card) (r .timestamp) (r .radius) (r .parent) (r .count) (r .kind) (set (r .slots) i v) (r .readings)
+withSlot r i v = withSlots r (set (r .slots) i v)
 
 abbrev pub withReadings : Record → List ℕ → Record
 withReadings r vs = parts (r .card) (r .timestamp) (r .radius) (r .parent) (r .count) (r .kind) (r .slots) vs

@@ -7,6 +7,7 @@ use lib.ListN.{getD, take, replicate}
 use Rattle.places.specs.Row.{rowTo}
 use Rattle.number.specs.Number.{numberAt}
 use Rattle.distance.specs.Signature.{readingsAt}
+use Rattle.refusals.specs.Limits.{mostChildren}
 
 -- ---- what a record holds
 
@@ -34,7 +35,7 @@ free =
       parent = 0;
       count = 0;
       kind = 0;
-      slots = replicate 8 0;
+      slots = replicate mostChildren 0;
       readings = replicate 16 0;
     }
 
@@ -53,7 +54,7 @@ slot r i = getD (r .slots) i 0
 abbrev pub children : Record → List ℕ
 children r = take (r .count) (r .slots)
 
--- ---- where it stands
+-- ---- where its fields stand
 
 -- the length of a record, and of the largest table, of 1,024 records
 abbrev pub recordLength : ℕ
@@ -62,55 +63,61 @@ recordLength = 64
 abbrev pub largestTable : ℕ
 largestTable = 65536
 
--- where the fields of the record in slot s start
-
--- bytes 0 to 3
-abbrev pub cardAt : ℕ → ℕ
-cardAt s = s * 64
+-- where the fields of the record that starts at b start; the card starts it, in bytes 0 to 3
 
 -- bytes 4 to 7
 abbrev pub timestampAt : ℕ → ℕ
-timestampAt s = s * 64 + 4
+timestampAt b = b + 4
 
 -- bytes 8 to 11
 abbrev pub radiusAt : ℕ → ℕ
-radiusAt s = s * 64 + 8
+radiusAt b = b + 8
 
 -- bytes 12 and 13
 abbrev pub parentAt : ℕ → ℕ
-parentAt s = s * 64 + 12
+parentAt b = b + 12
 
 -- byte 14
 abbrev pub countAt : ℕ → ℕ
-countAt s = s * 64 + 14
+countAt b = b + 14
 
 -- byte 15
 abbrev pub kindAt : ℕ → ℕ
-kindAt s = s * 64 + 15
+kindAt b = b + 15
 
 -- bytes 16 to 31, two for each child slot
 abbrev pub slotsAt : ℕ → ℕ
-slotsAt s = s * 64 + 16
+slotsAt b = b + 16
 
 -- bytes 32 to 63
 abbrev pub signatureAt : ℕ → ℕ
-signatureAt s = s * 64 + 32
+signatureAt b = b + 32
 
 -- ---- reading it
 
-abbrev pub slotsOf : List ℕ → ℕ → List ℕ
-slotsOf l s = rowTo 8 (λ i. numberAt 2 l (slotsAt s + 2 * i))
+abbrev pub slotsIn : List ℕ → ℕ → List ℕ
+slotsIn l b = rowTo mostChildren (λ i. numberAt 2 l (slotsAt b + 2 * i))
+
+-- the record whose first byte is byte b of l
+unfoldable pub recordAt : List ℕ → ℕ → Record
+recordAt l b =
+    record {
+      card = numberAt 4 l b;
+      timestamp = numberAt 4 l (timestampAt b);
+      radius = numberAt 4 l (radiusAt b);
+      parent = numberAt 2 l (parentAt b);
+      count = getD l (countAt b) 0;
+      kind = getD l (kindAt b) 0;
+      slots = slotsIn l b;
+      readings = readingsAt l (signatureAt b);
+    }
+
+-- ---- records one after another
+
+-- where the record in slot s starts
+abbrev pub placeOf : ℕ → ℕ
+placeOf s = s * recordLength
 
 -- the record in slot s of the bytes l
 unfoldable pub recordOf : List ℕ → ℕ → Record
-recordOf l s =
-    record {
-      card = numberAt 4 l (cardAt s);
-      timestamp = numberAt 4 l (timestampAt s);
-      radius = numberAt 4 l (radiusAt s);
-      parent = numberAt 2 l (parentAt s);
-      count = getD l (countAt s) 0;
-      kind = getD l (kindAt s) 0;
-      slots = slotsOf l s;
-      readings = readingsAt l (signatureAt s);
-    }
+recordOf l s = recordAt l (placeOf s)

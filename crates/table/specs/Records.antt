@@ -8,10 +8,13 @@ use lib.ListN.{length}
 use lib.Seq.{ext-getD}
 use Rattle.places.specs.Row.{row-at, row-past, row-length}
 use Rattle.number.specs.Frame.{Bytes}
-use Rattle.table.specs.Record.{Record, free, recordOf}
+use Rattle.table.specs.Record.{Record, free, recordLength, placeOf, recordOf}
 use Rattle.table.specs.Table.{recordsOf, recordsIn, at}
-use Rattle.table.specs.Cases.{below-or}
-use Rattle.table.specs.Same.{alike-record, past-free}
+use Rattle.places.specs.Cases.{below-or}
+use Rattle.table.specs.Place.{byte-place, byte-below}
+use Rattle.table.specs.Stands.{WholeRecords, whole-same}
+use Rattle.table.specs.Fields.{alike-record}
+use Rattle.table.specs.Same.{past-whole}
 
 pub records-length : (l : List ℕ) → length (recordsOf l) ≡ recordsIn l
 unfolding recordsOf
@@ -23,14 +26,14 @@ unfolding recordsOf
 records-in l s h = row-at (recordsIn l) (recordOf l) free s h
 
 -- and so does every slot of a table of whole records, since past the end all is free
-pub records-at : (l : List ℕ) → length l % 64 ≡ 0 → (s : ℕ) → at (recordsOf l) s ≡ recordOf l s
+pub records-at : (l : List ℕ) → WholeRecords l → (s : ℕ) → at (recordsOf l) s ≡ recordOf l s
 unfolding recordsOf
 records-at l whole s =
     below-or
     s
     (recordsIn l)
     (records-in l s)
-    (λ h. row-past (recordsIn l) (recordOf l) free s h ∙ sym (past-free l s (omega arith)))
+    (λ h. row-past (recordsIn l) (recordOf l) free s h ∙ sym (past-whole l s whole h))
 
 -- two tables of bytes of one length with the same records are one
 pub bytes-same :
@@ -38,9 +41,10 @@ pub bytes-same :
     → Bytes m
     → Bytes l
     → length m ≡ length l
-    → length l % 64 ≡ 0
+    → WholeRecords l
     → recordsOf m ≡ recordsOf l
     → m ≡ l
+unfolding recordOf
 bytes-same m l hm hl e whole same =
     ext-getD
     0
@@ -48,10 +52,9 @@ bytes-same m l hm hl e whole same =
     l
     e
     (λ i p.
-    let s = i / 64 in
-    let split : s * 64 + i % 64 ≡ i = omega arith in
+    let s = i / recordLength in
     let one : recordOf m s ≡ recordOf l s =
-    sym (records-at m (ap (λ (n : ℕ). n % 64) e ∙ whole) s)
+    sym (records-at m (whole-same l m e whole) s)
     ∙ ap (λ (rows : List Record). at rows s) same
     ∙ records-at l whole s in
-    rw split at (alike-record m s l s hm hl one (i % 64) (omega arith)))
+    rw (byte-place i) at (alike-record m (placeOf s) l (placeOf s) hm hl one (i % recordLength) (byte-below i)))

@@ -1,7 +1,7 @@
 -- Bytes to records and back, and records to bytes and back, give the same again.
--- The key idea: a record written is read back field by field; that bytes come back then follows, since equal records come
--- of equal bytes. Assumes nothing.
-use Prim.Native.Nat.{ℕ, zero, suc, _+_, _*_, _%_, _^_, _<_}
+-- The key idea: a record written is read back field by field; that bytes come back then follows, since equal records
+-- come of equal bytes. Assumes nothing.
+use Prim.Native.Nat.{ℕ, zero, suc, _+_, _*_, _^_, _<_}
 use mathlib.Core.Path.{_≡_, refl, ap, ap₂, sym, _∙_}
 use mathlib.Core.List.{List, [], _∷_, _++_, append-assoc, append-nil}
 use native.Mathlib.Omega.{arith}
@@ -9,12 +9,30 @@ use lib.ListN.{getD, length, length-append, List·getD-append, List·getD-eq-def
 use lib.Seq.{ext-getD, getD-append-add}
 use Rattle.number.specs.Number.{numberAt, digits}
 use Rattle.number.specs.Frame.{Bytes, digits-bytes, number-lt}
-use Rattle.distance.specs.Signature.{Fit, readings-length, readings-fit}
-use Rattle.table.specs.Record.{Record, free, recordOf, slot, slotsAt, signatureAt}
-use Rattle.table.specs.Table.{recordsOf, at, numbers, bytesOfRecord, bytesOf}
-use Rattle.table.specs.Cases.{below-or}
+use Rattle.distance.specs.Signature.{Fit, readings-fit}
+use Rattle.refusals.specs.Limits.{mostChildren}
+use Rattle.table.specs.Record.{
+  Record,
+  free,
+  slot,
+  recordLength,
+  timestampAt,
+  radiusAt,
+  parentAt,
+  countAt,
+  kindAt,
+  slotsAt,
+  signatureAt,
+  placeOf,
+  recordAt,
+  recordOf,
+}
+use Rattle.table.specs.Table.{recordsIn, recordsOf, at, numbers, bytesOfRecord, bytesOf}
+use Rattle.places.specs.Cases.{below-or}
 use Rattle.table.specs.Span.{Alike, number-alike}
-use Rattle.table.specs.Same.{slot-at, slots-length, reading-of, record-alike}
+use Rattle.table.specs.Place.{place-next}
+use Rattle.table.specs.Stands.{AreRecords, WholeRecords, are-in, are-long, whole-are}
+use Rattle.table.specs.Fields.{slot-in, slots-eight, reading-in, readings-sixteen, record-alike}
 use Rattle.table.specs.Records.{records-length, records-in, bytes-same}
 
 -- ---- records whose fields fit
@@ -27,7 +45,7 @@ pub record Fitting (r : Record) : Type 0 where
   pub parent : r .parent < 256 ^ 2
   pub count : r .count < 256
   pub kind : r .kind < 256
-  pub eight : length (r .slots) ≡ 8
+  pub eight : length (r .slots) ≡ mostChildren
   pub slots : Fit (r .slots)
   pub sixteen : length (r .readings) ≡ 16
   pub readings : Fit (r .readings)
@@ -37,26 +55,32 @@ abbrev pub FittingRow : List Record → Type 0
 FittingRow rows = (s : ℕ) → s < length rows → Fitting (at rows s)
 
 -- the fields that bytes hold fit
-pub record-fits : (l : List ℕ) (s : ℕ) → Bytes l → Fitting (recordOf l s)
-unfolding recordOf
-record-fits l s h =
+fields-fit : (l : List ℕ) (b : ℕ) → Bytes l → Fitting (recordAt l b)
+unfolding recordAt
+fields-fit l b h =
     record {
-      card = number-lt 4 l (s * 64) h;
-      timestamp = number-lt 4 l (s * 64 + 4) h;
-      radius = number-lt 4 l (s * 64 + 8) h;
-      parent = number-lt 2 l (s * 64 + 12) h;
-      count = h (s * 64 + 14);
-      kind = h (s * 64 + 15);
-      eight = slots-length l s;
+      card = number-lt 4 l b h;
+      timestamp = number-lt 4 l (timestampAt b) h;
+      radius = number-lt 4 l (radiusAt b) h;
+      parent = number-lt 2 l (parentAt b) h;
+      count = h (countAt b);
+      kind = h (kindAt b);
+      eight = slots-eight l b;
       slots = λ i.
           below-or
           i
-          8
-          (λ p. rw (slot-at l s i p) (number-lt 2 l (slotsAt s + 2 * i) h))
-          (λ p. rw (List·getD-eq-default (recordOf l s .slots) 0 {n = i} (omega (arith, slots-length l s))) (omega arith));
-      sixteen = readings-length l (signatureAt s);
-      readings = readings-fit l (signatureAt s) h;
+          mostChildren
+          (λ p. rw (slot-in l b i p) (number-lt 2 l (slotsAt b + 2 * i) h))
+          (λ p.
+          rw (List·getD-eq-default (recordAt l b .slots) 0 {n = i} (omega (arith, slots-eight l b)))
+          (omega arith));
+      sixteen = readings-sixteen l b;
+      readings = readings-fit l (signatureAt b) h;
     }
+
+pub record-fits : (l : List ℕ) (s : ℕ) → Bytes l → Fitting (recordOf l s)
+unfolding recordOf
+record-fits l s h = fields-fit l (placeOf s) h
 
 -- ---- numbers, one after another
 
@@ -64,7 +88,11 @@ numbers-length : (vs : List ℕ) → length (numbers 2 vs) ≡ 2 * length vs
 numbers-length [] = refl
 numbers-length (v ∷ vs) = omega (arith, numbers-length vs)
 
-number-back : (vs rest : List ℕ) (i : ℕ) → Fit vs → i < length vs → numberAt 2 (numbers 2 vs ++ rest) (2 * i) ≡ getD vs i 0
+number-back :
+    (vs rest : List ℕ) (i : ℕ)
+    → Fit vs
+    → i < length vs
+    → numberAt 2 (numbers 2 vs ++ rest) (2 * i) ≡ getD vs i 0
 unfolding numberAt
 number-back [] rest i fit p = absurd (omega arith)
 number-back (v ∷ vs) rest zero fit p = omega (arith, fit 0)
@@ -94,7 +122,11 @@ head-first : (r : Record) → bytesOfRecord r ≡ head r ++ numbers 2 (r .slots)
 unfolding bytesOfRecord
 head-first r = refl
 
-pub record-length : (r : Record) → length (r .slots) ≡ 8 → length (r .readings) ≡ 16 → length (bytesOfRecord r) ≡ 64
+pub record-length :
+    (r : Record)
+    → length (r .slots) ≡ mostChildren
+    → length (r .readings) ≡ 16
+    → length (bytesOfRecord r) ≡ recordLength
 record-length r e s =
     ap length (head-first r)
     ∙ omega (
@@ -125,9 +157,9 @@ row-back p vs rest l n i e en fit h =
     ∙ number-back vs rest i fit h
 
 module _ (r : Record) (fit : Fitting r) where
-  slot-back : (i : ℕ) → i < 8 → slot (recordOf (bytesOfRecord r) 0) i ≡ slot r i
+  slot-back : (i : ℕ) → i < mostChildren → slot (recordAt (bytesOfRecord r) 0) i ≡ slot r i
   slot-back i p =
-      slot-at (bytesOfRecord r) 0 i p
+      slot-in (bytesOfRecord r) 0 i p
       ∙ row-back
       (head r)
       (r .slots)
@@ -140,11 +172,11 @@ module _ (r : Record) (fit : Fitting r) where
       (fit .slots)
       (omega (arith, fit .eight))
 
-  reading-back : (i : ℕ) → i < 16 → getD (recordOf (bytesOfRecord r) 0 .readings) i 0 ≡ getD (r .readings) i 0
+  reading-back : (i : ℕ) → i < 16 → getD (recordAt (bytesOfRecord r) 0 .readings) i 0 ≡ getD (r .readings) i 0
   reading-back i p =
       let ss = numbers 2 (r .slots) in
       let rs = numbers 2 (r .readings) in
-      reading-of (bytesOfRecord r) 0 i p
+      reading-in (bytesOfRecord r) 0 i p
       ∙ row-back
       (head r ++ ss)
       (r .readings)
@@ -158,30 +190,30 @@ module _ (r : Record) (fit : Fitting r) where
       (omega (arith, fit .sixteen))
 
   -- "low byte first": what was written is read
-  pub record-back : recordOf (bytesOfRecord r) 0 ≡ r
-  unfolding recordOf bytesOfRecord numberAt
+  pub record-back : recordAt (bytesOfRecord r) 0 ≡ r
+  unfolding recordAt bytesOfRecord numberAt
   record-back =
       let l = bytesOfRecord r in
       let slots =
       ext-getD
       0
-      (recordOf l 0 .slots)
+      (recordAt l 0 .slots)
       (r .slots)
-      (slots-length l 0 ∙ sym (fit .eight))
-      (λ i p. slot-back i (omega (arith, slots-length l 0))) in
+      (slots-eight l 0 ∙ sym (fit .eight))
+      (λ i p. slot-back i (omega (arith, slots-eight l 0))) in
       let readings =
       ext-getD
       0
-      (recordOf l 0 .readings)
+      (recordAt l 0 .readings)
       (r .readings)
-      (readings-length l 32 ∙ sym (fit .sixteen))
-      (λ i p. reading-back i (omega (arith, readings-length l 32))) in
-      let card : recordOf l 0 .card ≡ r .card = omega (arith, fit .card) in
-      let timestamp : recordOf l 0 .timestamp ≡ r .timestamp = omega (arith, fit .timestamp) in
-      let radius : recordOf l 0 .radius ≡ r .radius = omega (arith, fit .radius) in
-      let parent : recordOf l 0 .parent ≡ r .parent = omega (arith, fit .parent) in
-      let count : recordOf l 0 .count ≡ r .count = omega (arith, fit .count) in
-      let kind : recordOf l 0 .kind ≡ r .kind = omega (arith, fit .kind) in
+      (readings-sixteen l 0 ∙ sym (fit .sixteen))
+      (λ i p. reading-back i (omega (arith, readings-sixteen l 0))) in
+      let card : recordAt l 0 .card ≡ r .card = omega (arith, fit .card) in
+      let timestamp : recordAt l 0 .timestamp ≡ r .timestamp = omega (arith, fit .timestamp) in
+      let radius : recordAt l 0 .radius ≡ r .radius = omega (arith, fit .radius) in
+      let parent : recordAt l 0 .parent ≡ r .parent = omega (arith, fit .parent) in
+      let count : recordAt l 0 .count ≡ r .count = omega (arith, fit .count) in
+      let kind : recordAt l 0 .kind ≡ r .kind = omega (arith, fit .kind) in
       λ i.
       record {
         card = card i;
@@ -196,8 +228,8 @@ module _ (r : Record) (fit : Fitting r) where
 
 -- ---- rows of records
 
-pub bytesOf-length : (rows : List Record) → FittingRow rows → length (bytesOf rows) ≡ length rows * 64
-unfolding bytesOf
+pub bytesOf-length : (rows : List Record) → FittingRow rows → AreRecords (bytesOf rows) (length rows)
+unfolding bytesOf AreRecords
 bytesOf-length [] fit = refl
 bytesOf-length (r ∷ rs) fit =
     let one = fit 0 (omega arith) in
@@ -213,22 +245,22 @@ bytesOf-at :
     (rows : List Record) (s : ℕ)
     → FittingRow rows
     → s < length rows
-    → Alike 64 (bytesOf rows) (s * 64) (bytesOfRecord (at rows s)) 0
+    → Alike recordLength (bytesOf rows) (placeOf s) (bytesOfRecord (at rows s)) 0
 unfolding bytesOf
 bytesOf-at [] s fit p j q = absurd (omega arith)
 bytesOf-at (r ∷ rs) zero fit p j q =
     let one = fit 0 (omega arith) in
-    let e : 0 * 64 + j ≡ j = omega arith in
+    let e : placeOf 0 + j ≡ j = omega arith in
     let z : j ≡ 0 + j = omega arith in
     ap (λ (k : ℕ). getD (bytesOfRecord r ++ bytesOf rs) k 0) e
     ∙ List·getD-append (bytesOfRecord r) (bytesOf rs) 0 j (omega (arith, record-length r (one .eight) (one .sixteen)))
     ∙ ap (λ (k : ℕ). getD (bytesOfRecord r) k 0) z
 bytesOf-at (r ∷ rs) (suc s) fit p j q =
     let one = fit 0 (omega arith) in
-    let e : suc s * 64 + j ≡ length (bytesOfRecord r) + (s * 64 + j) =
-    omega (arith, record-length r (one .eight) (one .sixteen)) in
+    let e : placeOf (suc s) + j ≡ length (bytesOfRecord r) + (placeOf s + j) =
+    omega (arith, place-next s, record-length r (one .eight) (one .sixteen)) in
     ap (λ (k : ℕ). getD (bytesOfRecord r ++ bytesOf rs) k 0) e
-    ∙ getD-append-add (bytesOfRecord r) (bytesOf rs) (s * 64 + j) 0
+    ∙ getD-append-add (bytesOfRecord r) (bytesOf rs) (placeOf s + j) 0
     ∙ bytesOf-at rs s (λ k b. fit (suc k) (omega arith)) (omega arith) j q
 
 append-bytes : (a b : List ℕ) → Bytes a → Bytes b → Bytes (a ++ b)
@@ -259,18 +291,20 @@ bytesOf-bytes (r ∷ rs) = append-bytes (bytesOfRecord r) (bytesOf rs) (record-b
 
 -- records to bytes and back
 pub rows-back : (rows : List Record) → FittingRow rows → recordsOf (bytesOf rows) ≡ rows
+unfolding recordOf
 rows-back rows fit =
     let l = bytesOf rows in
-    let n : length l ≡ length rows * 64 = bytesOf-length rows fit in
+    let long : length (recordsOf l) ≡ length rows =
+    records-length l ∙ are-in l (length rows) (bytesOf-length rows fit) in
     ext-getD
     free
     (recordsOf l)
     rows
-    (records-length l ∙ omega arith)
+    long
     (λ s p.
-    let b : s < length rows = omega (arith, records-length l) in
+    let b : s < length rows = omega arith in
     records-in l s (omega (arith, records-length l))
-    ∙ record-alike l s (bytesOfRecord (at rows s)) 0 (bytesOf-at rows s fit b)
+    ∙ record-alike l (placeOf s) (bytesOfRecord (at rows s)) 0 (bytesOf-at rows s fit b)
     ∙ record-back (at rows s) (fit s b))
 
 -- the records that bytes hold fit
@@ -278,14 +312,15 @@ pub row-fits : (l : List ℕ) → Bytes l → FittingRow (recordsOf l)
 row-fits l h s p = rw (records-in l s (omega (arith, records-length l))) (record-fits l s h)
 
 -- bytes to records and back
-pub bytes-back : (l : List ℕ) → Bytes l → length l % 64 ≡ 0 → bytesOf (recordsOf l) ≡ l
+pub bytes-back : (l : List ℕ) → Bytes l → WholeRecords l → bytesOf (recordsOf l) ≡ l
 bytes-back l h whole =
     let fit = row-fits l h in
+    let long = rw (records-length l) at (bytesOf-length (recordsOf l) fit) in
     bytes-same
     (bytesOf (recordsOf l))
     l
     (bytesOf-bytes (recordsOf l))
     h
-    (omega (arith, bytesOf-length (recordsOf l) fit, records-length l))
+    (are-long (bytesOf (recordsOf l)) l (recordsIn l) long (whole-are l whole))
     whole
     (rows-back (recordsOf l) fit)

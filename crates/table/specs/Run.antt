@@ -11,7 +11,7 @@ use Rattle.number.specs.Number.{numberAt, withNumber}
 use Rattle.number.specs.Frame.{Bytes, Outside, digits-bytes}
 use Rattle.number.specs.Frame.{with-length, with-outside, with-inside, number-with, number-other}
 use Rattle.distance.specs.Signature.{Fit, readingsAt, reading-at, readings-length}
-use Rattle.table.specs.Cases.{below-or, equal-or}
+use Rattle.places.specs.Cases.{below-or, equal-or}
 use Rattle.table.specs.Put.{putReadings, zeroed}
 
 -- ---- a number, and a byte

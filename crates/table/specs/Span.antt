@@ -6,7 +6,7 @@ use mathlib.Core.List.{List}
 use native.Mathlib.Omega.{arith}
 use native.Mathlib.Nat.{add-zero}
 use lib.ListN.{getD}
-use Rattle.table.specs.Cases.{below-or}
+use Rattle.places.specs.Cases.{below-or}
 use Rattle.number.specs.Number.{numberAt, numberFrom}
 use Rattle.number.specs.Frame.{Bytes, number-as}
 

@@ -3,20 +3,24 @@ use Prim.Native.Nat.{ℕ, _/_, _%_}
 use mathlib.Core.Bool.{Bool, _&&_}
 use mathlib.Core.List.{List, [], _∷_, _++_}
 use lib.Dec.{leb, eqb}
-use lib.ListN.{getD, length}
+use lib.ListN.{getD, length, replicate}
 use Rattle.places.specs.Row.{rowTo}
 use Rattle.number.specs.Number.{digits}
-use Rattle.table.specs.Record.{Record, free, recordOf}
+use Rattle.table.specs.Record.{Record, free, recordLength, largestTable, placeOf, recordOf}
 
 -- ---- size
 
 -- "The table's length is a multiple of 64 from 64 to 65,536"
 unfoldable pub rightSize : ℕ → Bool
-rightSize n = (leb 64 n && leb n 65536) && eqb (n % 64) 0
+rightSize n = (leb recordLength n && leb n largestTable) && eqb (n % recordLength) 0
 
 -- how many records the bytes hold
 abbrev pub recordsIn : List ℕ → ℕ
-recordsIn l = length l / 64
+recordsIn l = length l / recordLength
+
+-- the bytes of n free records
+unfoldable pub freeTable : ℕ → List ℕ
+freeTable n = replicate (placeOf n) 0
 
 -- ---- bytes and records
 

@@ -1,8 +1,12 @@
-// The record and the table in lent bytes. The places of a record's fields stand here and nowhere else in code.
+// The record and the table in lent bytes.
+mod layout;
 mod read;
 mod size;
 mod write;
 
+pub use layout::NO_SLOT;
+pub use layout::RECORD;
+pub use layout::records_in;
 pub use read::away_from;
 pub use read::card_of;
 pub use read::child_of;
@@ -27,27 +31,3 @@ pub use write::put_radius;
 pub use write::put_signature;
 pub use write::put_slot;
 pub use write::put_timestamp;
-
-// The parent's slot of a root, and a child slot past the count.
-pub const NO_SLOT: u16 = 65535;
-
-// Bytes of a record.
-pub const RECORD: usize = 64;
-
-// Bytes of the largest table, 1,024 records.
-const LARGEST: usize = 65536;
-
-// Where each field starts in its record; the card starts it.
-const TIMESTAMP: usize = 4;
-
-const RADIUS: usize = 8;
-
-const PARENT: usize = 12;
-
-const COUNT: usize = 14;
-
-const KIND: usize = 15;
-
-const SLOTS: usize = 16;
-
-const SIGNATURE: usize = 32;

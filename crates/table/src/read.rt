@@ -1,21 +1,21 @@
 // The fields of the record in slot s, read where they stand.
 ghost use mathlib.Core.Path.{_≡_};
-ghost use Prim.Native.Nat.{_+_, _*_, _≤_, _<_};
-ghost use lib.ListN.{length};
+ghost use Prim.Native.Nat.{_≤_, _<_};
 ghost use Rattle.distance.specs.Signature.{wordOf};
 ghost use Rattle.distance.specs.Laws.{farthest};
 ghost use Rattle.distance.specs.Kind.{apart};
+ghost use Rattle.refusals.specs.Limits.{mostChildren};
 ghost use Rattle.table.specs.Record.{recordOf, slot};
 ghost use Rattle.table.specs.Stands.{Stands};
 ghost use Rattle.table.specs.Same.{TellsFree};
-use super::COUNT;
-use super::KIND;
-use super::PARENT;
-use super::RADIUS;
-use super::RECORD;
-use super::SIGNATURE;
-use super::SLOTS;
-use super::TIMESTAMP;
+use super::layout::COUNT;
+use super::layout::KIND;
+use super::layout::PARENT;
+use super::layout::RADIUS;
+use super::layout::RECORD;
+use super::layout::SIGNATURE;
+use super::layout::SLOTS;
+use super::layout::TIMESTAMP;
 use distance::Signature;
 
 pub fn card_of(t: &[u8], s: usize) -> u32
@@ -62,7 +62,7 @@ pub fn kind_of(t: &[u8], s: usize) -> u8
 
 // Child slot i, counted from 0.
 pub fn slot_of(t: &[u8], s: usize, i: usize) -> u16
-    requires { ⌜ Stands (now t) s × (i < 8) ⌝ }
+    requires { ⌜ Stands (now t) s × (i < mostChildren) ⌝ }
     ensures { λ r. ⌜ r ≡ slot (recordOf (now (t .entry)) s) i ⌝ }
 {
     number::get_u16(t, s * RECORD + SLOTS + 2 * i)
@@ -78,7 +78,7 @@ pub fn children_of(t: &[u8], s: usize) -> usize
 
 // Child slot i as a slot to read on from.
 pub fn child_of(t: &[u8], s: usize, i: usize) -> usize
-    requires { ⌜ Stands (now t) s × (i < 8) ⌝ }
+    requires { ⌜ Stands (now t) s × (i < mostChildren) ⌝ }
     ensures { λ r. ⌜ r ≡ slot (recordOf (now (t .entry)) s) i ⌝ }
 {
     slot_of(t, s, i) as usize

@@ -1,18 +1,19 @@
 // The fields of the record in slot s, written where they stand.
 ghost use mathlib.Core.Path.{_≡_};
-ghost use Prim.Native.Nat.{_+_, _*_, _≤_, _<_};
+ghost use Prim.Native.Nat.{_+_, _≤_, _<_};
 ghost use lib.ListN.{length};
+ghost use Rattle.refusals.specs.Limits.{mostChildren};
 ghost use Rattle.table.specs.Stands.{Stands};
 ghost use Rattle.table.specs.Put.{putCard, putTimestamp, putRadius, putParent, putCount, putKind, putSlot};
 ghost use Rattle.table.specs.Put.{putSignature, zeroed, freed};
-use super::COUNT;
-use super::KIND;
-use super::PARENT;
-use super::RADIUS;
-use super::RECORD;
-use super::SIGNATURE;
-use super::SLOTS;
-use super::TIMESTAMP;
+use super::layout::COUNT;
+use super::layout::KIND;
+use super::layout::PARENT;
+use super::layout::RADIUS;
+use super::layout::RECORD;
+use super::layout::SIGNATURE;
+use super::layout::SLOTS;
+use super::layout::TIMESTAMP;
 use distance::Signature;
 
 pub fn put_card(t: &mut [u8], s: usize, v: u32)
@@ -59,7 +60,7 @@ pub fn put_kind(t: &mut [u8], s: usize, v: u8)
 
 // Child slot i, counted from 0.
 pub fn put_slot(t: &mut [u8], s: usize, i: usize, v: u16)
-    requires { ⌜ Stands (now t) s × (i < 8) ⌝ }
+    requires { ⌜ Stands (now t) s × (i < mostChildren) ⌝ }
     ensures { λ _. ⌜ now (t .exit) ≡ putSlot (now (t .entry)) s i v ⌝ }
 {
     number::put_u16(t, s * RECORD + SLOTS + 2 * i, v);

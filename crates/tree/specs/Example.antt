@@ -1,12 +1,12 @@
--- The definitions at work on the paper's listing: the table after its line 6 (cards 11 to 16, reading 0 alone, arity 2).
--- Lines 7 and P12 come out as printed, and the search that "Errors that look right" gives first finds its card.
+-- The definitions at work on the paper's listing: the table after its line 6 (cards 11 to 16, reading 0 alone, arity
+-- 2). Lines 7 and P12 come out as printed, and the search that "Errors that look right" gives first finds its card.
 use Prim.Native.Nat.{ℕ, _+_, _-_}
 use mathlib.Core.Path.{_≡_, refl}
 use mathlib.Core.List.{List, [], _∷_}
 use lib.ListN.{getD}
 use Rattle.tree.specs.Slots.{keep}
 use Rattle.tree.specs.View.{View, usedCount, childCounts, distanceCount}
-use Rattle.tree.specs.Search.{least, enters, visited, bound, turn, visit, walk, listed}
+use Rattle.tree.specs.Search.{least, enters, isVisited, bound, turn, visit, walk, listed}
 use Rattle.tree.specs.Insert.{nearest, hangs, onward, path}
 use Rattle.tree.specs.Insert as Insert
 
@@ -28,19 +28,21 @@ abbrev found : ℕ → ℕ → List ℕ × ℕ
 found q r = (listed distance six q r (walk distance six q r 8 0 7), distanceCount six (walk distance six q r 8 0 7))
 
 line-7 : found 48 5 ≡ (11 ∷ 14 ∷ [], 5)
-unfolding distance six keep usedCount childCounts distanceCount least enters visited bound turn visit listed
+unfolding distance six keep usedCount childCounts distanceCount least enters isVisited bound turn visit listed
 line-7 = refl
 
 P12 : found 40 0 ≡ (15 ∷ [], 4)
-unfolding distance six keep usedCount childCounts distanceCount least enters visited bound turn visit listed
+unfolding distance six keep usedCount childCounts distanceCount least enters isVisited bound turn visit listed
 P12 = refl
 
 -- "a search for 52 with radius 0": card 11 is nearer to it than card 12, below which card 14 stands
 nearer-parent : listed distance six 52 0 (walk distance six 52 0 8 0 7) ≡ 14 ∷ []
-unfolding distance six keep usedCount least enters visited bound turn visit listed
+unfolding distance six keep usedCount least enters isVisited bound turn visit listed
 nearer-parent = refl
 
 -- a seventh card at 41 would be compared with four, and hang below card 15
-seventh : (Insert.walk distance six 41 2 8 0 ≡ 0 ∷ 2 ∷ 4 ∷ []) × (distanceCount six (Insert.walk distance six 41 2 8 0) ≡ 4)
+seventh :
+    (Insert.walk distance six 41 2 8 0 ≡ 0 ∷ 2 ∷ 4 ∷ [])
+    × (distanceCount six (Insert.walk distance six 41 2 8 0) ≡ 4)
 unfolding distance six keep usedCount childCounts distanceCount nearest hangs onward path
 seventh = (refl, refl)

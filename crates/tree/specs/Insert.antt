@@ -1,5 +1,5 @@
--- "Insert (001, Algorithm 1)": the records that the walk visits, and what the table is afterwards. The distance count is
--- `distanceCount` of View at the records visited, in the table before the call.
+-- "Insert (001, Algorithm 1)": the records that the walk visits, and what the table is afterwards. The distance count
+-- is `distanceCount` of View at the records visited, in the table before the call.
 use Prim.Native.Nat.{ℕ, suc, zero, _≤_, _<_, max}
 use mathlib.Core.Bool.{Bool, _&&_, not, cond}
 use mathlib.Core.Path.{_≡_}
@@ -23,7 +23,8 @@ last a (b ∷ l) = last b l
 
 -- ---- the walk of the new card's signature x
 
--- 2. "Find a's child c nearest to x. Among children equally near, the oldest is taken": of c and the younger ones after it
+-- 2. "Find a's child c nearest to x. Among children equally near, the oldest is taken": of c and the younger ones
+-- after it
 unfoldable pub nearest : {Sig : Type 0} → (Sig → Sig → ℕ) → View Sig → Sig → ℕ → List ℕ → ℕ
 nearest d v x c [] = c
 nearest d v x c (e ∷ l) = nearest d v x (cond (ltb (away d v x e) (away d v x c)) e c) l

@@ -24,9 +24,9 @@ module _ {Sig : Type 0} (d : Sig → Sig → ℕ) (v : View Sig) (q : Sig) (r : 
 
   -- 3. "each child is visited .. if its distance is at most the smallest distance of its older siblings plus 2r (the
   -- first child always)": at most the distance of every older sibling plus 2r
-  unfoldable pub visited : List ℕ → ℕ → Bool
-  visited [] b = true
-  visited (o ∷ os) b = leb (away d v q b) (away d v q o + 2 * r) && visited os b
+  unfoldable pub isVisited : List ℕ → ℕ → Bool
+  isVisited [] b = true
+  isVisited (o ∷ os) b = leb (away d v q b) (away d v q o + 2 * r) && isVisited os b
 
   -- 3. "Its bound is the smallest of t and the timestamps of younger siblings c where the child's distance exceeds c's
   -- distance plus 2r": of child b, whose younger siblings are the list
@@ -34,10 +34,11 @@ module _ {Sig : Type 0} (d : Sig → Sig → ℕ) (v : View Sig) (q : Sig) (r : 
   bound t b [] = t
   bound t b (c ∷ cs) = least (ltb (away d v q c + 2 * r) (away d v q b)) (v .timestamp c) (bound t b cs)
 
-  -- 3. the children's turn, "in rising timestamp order": os are the older siblings, and `go` visits a child with its bound
+  -- 3. the children's turn, "in rising timestamp order": os are the older siblings, and `go` visits a child with its
+  -- bound
   unfoldable pub turn : (ℕ → ℕ → List ℕ) → ℕ → List ℕ → List ℕ → List ℕ
   turn go t os [] = []
-  turn go t os (b ∷ bs) = keep (visited os b) (go b (bound t b bs)) ++ turn go t (b ∷ os) bs
+  turn go t os (b ∷ bs) = keep (isVisited os b) (go b (bound t b bs)) ++ turn go t (b ∷ os) bs
 
   -- "Visiting a with bound t": the slots entered; fuel: the depth left
   unfoldable pub visit : ℕ → ℕ → ℕ → List ℕ

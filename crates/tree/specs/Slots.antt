@@ -2,7 +2,6 @@
 use Prim.Native.Nat.{ℕ, suc, _≤_}
 use mathlib.Core.Bool.{Bool, true, false, false≢true}
 use mathlib.Core.Path.{_≡_, refl, sym, ap, _∙_}
-use mathlib.Core.Logic.{_⊎_, inl, inr}
 use mathlib.Core.List.{List, [], _∷_, _++_, map, flatMap, Memᴰ·cast, Memᴰ·append-left, Memᴰ·append-right}
 use mathlib.Core.List.{List·Memᴰ, List·Memᴰ·head as first, List·Memᴰ·tail as later}
 use mathlib.Core.List.{List·Memᴰ·not-nil, List·Memᴰ·append-cases}
@@ -10,6 +9,7 @@ use mathlib.Core.List.{Sublistᴰ, Sublistᴰ·slnil, Sublistᴰ·cons, Sublist�
 use native.Mathlib.Omega.{arith}
 use native.Mathlib.Decide.{ℕ-discrete}
 use lib.ListN.{length}
+use Rattle.places.specs.Cases.{either}
 
 infix 50 _∈_
 infix 50 _⊑_
@@ -30,11 +30,6 @@ Distinct (a ∷ l) = (a ∈ l → ⊥) × Distinct l
 unfoldable pub keep : Bool → List ℕ → List ℕ
 keep true l = l
 keep false l = []
-
--- one of two facts, and what follows from each
-pub either : {A B C : Type 0} → A ⊎ B → (A → C) → (B → C) → C
-either (inl a) f g = f a
-either (inr b) f g = g b
 
 -- ---- membership
 

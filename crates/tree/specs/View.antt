@@ -1,5 +1,5 @@
--- A table as the tree sees it: functions of the slot; what a well-formed table is, and a sound one, in the paper's words;
--- and the distance count, which search and insert share.
+-- A table as the tree sees it: functions of the slot; what a well-formed table is, and a sound one, in the paper's
+-- words; and the distance count, which search and insert share.
 use Prim.Native.Nat.{ℕ, suc, zero, _+_, _≤_, _<_, min}
 use mathlib.Core.Path.{_≡_}
 use mathlib.Core.List.{List, [], _∷_, flatMap}

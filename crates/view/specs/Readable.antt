@@ -20,7 +20,7 @@ use Rattle.judge.specs.WellFormed.{WellFormed}
 use Rattle.judge.specs.Decided.{formed-decided}
 use Rattle.survey.specs.Survey.{usedIn, rootOf}
 use Rattle.admission.specs.Admission.{Readable}
-use Rattle.tree.specs.Slots.{either}
+use Rattle.places.specs.Cases.{either}
 use Rattle.tree.specs.View.{Formed}
 use Rattle.view.specs.View.{viewOf}
 use Rattle.view.specs.Shaped.{Shaped, shaped-bytes}

@@ -1,6 +1,7 @@
--- "Sound: well formed, and (a) each record's covering radius is at least its distance to every record below it; (b) if b
--- and c are children of one record, and x stands below b with c older than x, then x is no farther from b than from c. A
--- free table is sound." (a) and (b) are `Sound` of the tree, at the distance of the table's kind. Assumes nothing.
+-- "Sound: well formed, and (a) each record's covering radius is at least its distance to every record below it; (b) if
+-- b and c are children of one record, and x stands below b with c older than x, then x is no farther from b than from
+-- c. A free table is sound." (a) and (b) are `Sound` of the tree, at the distance of the table's kind. Assumes
+-- nothing.
 use Prim.Native.Nat.{ℕ, _<_}
 use mathlib.Core.Path.{_≡_, ap, _∙_}
 use mathlib.Core.Logic.{_⊎_, inl, inr}
@@ -10,7 +11,7 @@ use Rattle.distance.specs.Kind.{apart}
 use Rattle.table.specs.Record.{Record, Used}
 use Rattle.judge.specs.WellFormed.{WellFormed}
 use Rattle.survey.specs.Survey.{usedIn, kindOf}
-use Rattle.tree.specs.Slots.{either}
+use Rattle.places.specs.Cases.{either}
 use Rattle.tree.specs.View.{Sound}
 use Rattle.view.specs.View.{viewOf}
 use Rattle.view.specs.Shaped.{Shaped}

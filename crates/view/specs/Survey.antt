@@ -9,7 +9,7 @@ use borrow.Author.Tests.{leb-true, leb-false, le-leb}
 use Rattle.places.specs.Count.{one, some-counted, seen-counted}
 use Rattle.places.specs.Test.{countTo}
 use Rattle.table.specs.Record.{Record, Used, used, noSlot}
-use Rattle.table.specs.Cases.{below-or}
+use Rattle.places.specs.Cases.{below-or}
 use Rattle.judge.specs.WellFormed.{WellFormed}
 use Rattle.survey.specs.Survey.{firstFrom, usedIn, rootOf, kindOf, largestTimestamp}
 use Rattle.survey.specs.First.{first-passes}

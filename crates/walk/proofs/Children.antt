@@ -3,7 +3,6 @@
 use Prim.Native.Nat.{ℕ, zero, suc, _+_, _-_, _*_, _≤_, _<_, min}
 use mathlib.Core.Path.{_≡_, refl, sym, ap, _∙_}
 use mathlib.Core.Bool.{Bool, true, false, _&&_}
-use mathlib.Core.Logic.{_⊎_, ⊎-elim}
 use mathlib.Core.List.{List, [], _∷_, _++_}
 use native.Mathlib.Omega.{arith}
 use native.Mathlib.Numerals.{add-one}
@@ -23,10 +22,6 @@ use Rattle.tree.specs.Search.{least, enters}
 use Rattle.tree.specs.Search.Turn.{boundFrom, turnFrom, visitFrom}
 use Rattle.walk.specs.Step.{Query, awayFrom, awayIn, isCovered, isEntered}
 use Rattle.walk.specs.Loop.Children.{Compared, smallestTo, nearestTo, boundOn, childBound, enteredFrom, restFrom}
-
--- by which way control came, with the sum first, so that its type is known in the arms
-pub cases : {A B C : Type 0} → A ⊎ B → (A → C) → (B → C) → C
-cases s f g = ⊎-elim f g s
 
 -- a record of a table that can be walked has its children in its child slots
 pub count-slots :

@@ -18,20 +18,35 @@ in turn, so a slower machine moves the times and hardly the ratios. Below 1 is f
 - **of scan**: over the time of a plain scan that works out every used record's distance, lists the cards within the
   radius and judges nothing. Calls other than search are held against the scan of 1 in 100.
 - **of validated scan**: over the library's own judging of the table followed by that scan. Every call but clear judges
-  the whole table first, so this is what a scan over lent bytes would cost if it trusted them no more than the index does.
+  the whole table first, so this is what a scan over lent bytes would cost if it trusted them no more than the index.
 - **of twin**: over the same algorithm in plain Rust, in place over the same bytes, with the same judging, not proved
   (`rust/twin`). Before anything is timed, both are seen to give the same answers and the same bytes.
 
-Tables were made by inserts with arity {arity}. Clustered: a few centres, readings within 40 of them or up to twelve bits
-turned. Uniform: random bytes, where no index can rule much out. `insert` goes into the last free record. A card in the
-middle has the median number of records below it, among those that have any. Judging alone is timed through a search
-that is refused with 3 right after it.
+Tables were made by inserts with arity {arity}. Clustered: a few centres, readings within 40 of them or up to twelve
+bits turned. Uniform: random bytes, where no index can rule much out. `insert` goes into the last free record. A card in
+the middle has the median number of records below it, among those that have any. Judging alone is timed through a search
+that is refused with 3 right after it. These rows make one call on one table again and again; further down is what calls
+cost after other work.
 
 Machine: {}; load {}.
 
 {HEAD}",
         processor(),
         load()
+    );
+}
+
+pub fn after_other_work() {
+    println!(
+        "
+## After other work
+
+A rack makes one call after something else, and not the same call a thousand times on one table, as the rows above do,
+until caches and branch prediction know it. Here eight different tables of 1,024 records, made in the same way, are used
+in turn: the call, both scans and the twin each go over all eight, one call on each. A time is that of the middle call
+of a turn, and the median of many turns. Before a turn of inserts all eight are copied afresh, outside the time.
+
+{HEAD}"
     );
 }
 

@@ -5,10 +5,13 @@ mod document;
 mod rows;
 mod scan;
 mod tables;
-mod timing;
 
+use model::record::MOST_RECORDS;
 use model::signature::Flavour;
 use tables::{Bench, Setting, ARITY};
+
+/// The tables that are used in turn where a call comes after other work.
+const IN_TURN: u64 = 8;
 
 fn main() {
     let arity = match std::env::args().nth(1).map(|number| number.parse()) {
@@ -32,7 +35,15 @@ fn main() {
             }
         }
     }
+    document::after_other_work();
+    for kind in [1, 2] {
+        let setting = Setting { records: MOST_RECORDS, flavour: Flavour::Clustered, kind, arity };
+        let tables: Vec<Bench> = (0..IN_TURN).map(|seed| Bench::new(setting, 20 + seed)).collect();
+        rows::measure_in_turn(&tables, &mut |row| println!("{row}"));
+    }
     document::worst_cases();
-    rows::measure_chain(&mut |row| println!("{row}"));
+    for kind in [1, 2] {
+        rows::measure_chain(&Bench::chain(kind), &mut |row| println!("{row}"));
+    }
     document::aims(&rows);
 }

@@ -1,16 +1,16 @@
-//! The rows of the table: each call on one table, timed in turn with both scans and the twin.
+//! The rows: each call on one table again and again, or on several in turn, timed in turn with both scans and the twin.
 
 use crate::scan::{judge, plain, validated};
 use crate::tables::{Bench, Setting, Share, ITEMS};
-use crate::timing::{changing, medians, reading, Work};
-use model::assemble::{self, Clock, Shape};
-use model::random::Random;
-use model::record::{parse_table, MOST_RECORDS};
-use model::signature::Flavour;
+use model::index::Search;
 use plotvuga::library;
 use std::fmt;
 use std::hint::black_box;
-use twin::record::Signature;
+use std::time::Duration;
+use timing::{changing, medians, reading, rounds_within, Work};
+
+/// The time that one row may take in all, more or less.
+const ROW: Duration = Duration::from_millis(900);
 
 pub struct Row {
     pub setting: Setting,
@@ -32,167 +32,174 @@ impl fmt::Display for Row {
     }
 }
 
-/// The scans' part of a row: the table, and queries with their radii.
+/// The scans' part of a row: tables of one setting, and the radii of each one's queries.
 struct Scans<'a> {
-    setting: Setting,
-    table: &'a [u8],
-    queries: &'a [Signature],
-    radii: Vec<u32>,
+    tables: &'a [Bench],
+    radii: Vec<Vec<u32>>,
 }
 
 impl Scans<'_> {
+    /// Scans that find this share of the cards.
+    fn of(tables: &[Bench], share: Share) -> Scans<'_> {
+        Scans { tables, radii: tables.iter().map(|bench| bench.radii(share)).collect() }
+    }
+
+    fn table(&self, table: usize) -> &[u8] {
+        black_box(&self.tables[table].full)
+    }
+
+    /// What a search of this table is lent for this item.
+    fn search<'a>(&'a self, table: usize, item: usize, list: &'a mut [u32]) -> Search<'a> {
+        let Bench { setting, queries, .. } = &self.tables[table];
+        let query = item % ITEMS;
+        Search { kind: setting.kind, signature: &queries[query], radius: self.radii[table][query], list }
+    }
+
+    fn list(&self) -> Vec<u32> {
+        vec![0; self.tables[0].setting.records]
+    }
+
     /// Times the library and the twin in turn with both scans.
     fn row(&self, call: &'static str, library: Work, twin: Work) -> Row {
-        let (kind, records) = (self.setting.kind, self.setting.records);
-        let (mut one, mut other) = (vec![0; records], vec![0; records]);
-        let query = |item: usize| (&self.queries[item % ITEMS], self.radii[item % ITEMS]);
-        let plain = reading(|item| {
-            let (query, radius) = query(item);
-            plain(black_box(self.table), kind, query, radius, &mut one)
-        });
-        let validated = reading(|item| {
-            let (query, radius) = query(item);
-            validated(black_box(self.table), kind, query, radius, &mut other)
-        });
-        let [time, scan, validated, twin] = medians([library, plain, validated, twin]);
-        let setting = self.setting;
+        let (mut one, mut other) = (self.list(), self.list());
+        let many = self.tables.len();
+        let plain = reading(many, |table, item| plain(self.table(table), self.search(table, item, &mut one)));
+        let validated = reading(many, |table, item| validated(self.table(table), self.search(table, item, &mut other)));
+        let mut works = [library, plain, validated, twin];
+        let rounds = rounds_within(ROW, &mut works);
+        let [time, scan, validated, twin] = medians(works, rounds);
+        let setting = self.tables[0].setting;
         Row { setting, call, time, scan: time / scan, validated: time / validated, twin: time / twin }
     }
 }
 
+/// Every call on one table, again and again.
 pub fn measure(bench: &Bench, print: &mut dyn FnMut(Row)) {
-    print(judging(bench));
-    print(insert(bench));
-    print(delete(bench, "delete, a leaf", &bench.leaves()));
-    print(delete(bench, "delete, a card in the middle", &[bench.middle()]));
-    print(delete(bench, "delete, the root", &[bench.root()]));
-    print(search(bench, "search, none found", Share::None));
-    print(search(bench, "search, 1 in 100 found", Share::OneIn(100)));
-    print(search(bench, "search, 1 in 10 found", Share::OneIn(10)));
-    print(check(bench));
+    let tables = std::slice::from_ref(bench);
+    print(judging(tables));
+    print(insert(tables));
+    print(delete(tables, "delete, a leaf", Bench::leaves));
+    print(delete(tables, "delete, a card in the middle", |bench| vec![bench.middle()]));
+    print(delete(tables, "delete, the root", |bench| vec![bench.root()]));
+    print(search(tables, "search, none found", Share::None));
+    print(search(tables, "search, 1 in 100 found", Share::OneIn(100)));
+    print(search(tables, "search, 1 in 10 found", Share::OneIn(10)));
+    print(check(tables));
 }
 
-fn scans(bench: &Bench, share: Share) -> Scans<'_> {
-    Scans { setting: bench.setting, table: &bench.full, queries: &bench.queries, radii: bench.radii(share) }
+/// The calls that a rack makes most, on several tables in turn.
+pub fn measure_in_turn(tables: &[Bench], print: &mut dyn FnMut(Row)) {
+    print(judging(tables));
+    print(insert(tables));
+    print(search(tables, "search, 1 in 100 found", Share::OneIn(100)));
+    print(check(tables));
+}
+
+/// The most work, on a chain that every search goes down.
+pub fn measure_chain(chain: &Bench, print: &mut dyn FnMut(Row)) {
+    let tables = std::slice::from_ref(chain);
+    print(search(tables, "chain: search, all found", Share::All));
+    print(delete(tables, "chain: delete, the root, arity 1", |bench| vec![bench.root()]));
+    print(Row { call: "chain: check", ..check(tables) });
 }
 
 // ---- the calls ----
 
 /// The part of every call but clear that comes first.
-fn judging(bench: &Bench) -> Row {
-    let (table, query) = (&bench.full, &bench.queries[0]);
-    let library = reading(|_| assert_eq!(judge(black_box(table), query), 3));
-    let twin = reading(|_| assert_eq!(twin::search(black_box(table), 0, query, 0, &mut []).refusal, 3));
-    scans(bench, Share::OneIn(100)).row("judging alone", library, twin)
+fn judging(tables: &[Bench]) -> Row {
+    let scans = Scans::of(tables, Share::OneIn(100));
+    let query = &tables[0].queries[0];
+    let library = reading(tables.len(), |table, _| assert_eq!(judge(scans.table(table), query), 3));
+    let twin = reading(tables.len(), |table, _| {
+        let refused = Search { kind: 0, signature: query, radius: 0, list: &mut [] };
+        assert_eq!(twin::search(scans.table(table), refused).refusal, 3);
+    });
+    scans.row("judging alone", library, twin)
 }
 
-fn insert(bench: &Bench) -> Row {
-    let Setting { kind, arity, .. } = bench.setting;
-    let new =
-        1 + parse_table(&bench.full).iter().map(|record| record.card).filter(|card| *card < u32::MAX).max().unwrap();
-    let own = |table: &mut [u8], item: usize| {
+fn insert(tables: &[Bench]) -> Row {
+    let Setting { kind, arity, .. } = tables[0].setting;
+    let new: Vec<u32> = tables.iter().map(Bench::new_card).collect();
+    let query = |place: usize, item: usize| &tables[place].queries[item % ITEMS];
+    let own = |table: &mut [u8], place: usize, item: usize| {
         let mut count = 0;
-        let refusal = library::insert(table, new, kind, arity, &bench.queries[item % ITEMS], &mut count);
-        assert_eq!(refusal, 0);
+        assert_eq!(library::insert(table, new[place], kind, arity, query(place, item), &mut count), 0);
         count
     };
-    let twins = |table: &mut [u8], item: usize| {
-        let answer = twin::insert(table, new, kind, &bench.queries[item % ITEMS], arity);
+    let twins = |table: &mut [u8], place: usize, item: usize| {
+        let answer = twin::insert(table, new[place], kind, query(place, item), arity);
         assert_eq!(answer.refusal, 0);
         answer.count
     };
-    same(&bench.room, own, twins);
-    let library = changing(&bench.room, |table, item| own(table, item));
-    let twin = changing(&bench.room, |table, item| twins(table, item));
-    scans(bench, Share::OneIn(100)).row("insert", library, twin)
+    let starts: Vec<&[u8]> = tables.iter().map(|bench| &bench.room[..]).collect();
+    changed("insert", tables, starts, own, twins)
 }
 
-fn delete(bench: &Bench, call: &'static str, cards: &[u32]) -> Row {
-    let arity = bench.setting.arity;
-    let own = |table: &mut [u8], item: usize| {
+fn delete(tables: &[Bench], call: &'static str, cards: impl Fn(&Bench) -> Vec<u32>) -> Row {
+    let arity = tables[0].setting.arity;
+    let cards: Vec<Vec<u32>> = tables.iter().map(cards).collect();
+    let card = |place: usize, item: usize| cards[place][item % cards[place].len()];
+    let own = |table: &mut [u8], place: usize, item: usize| {
         let mut count = 0;
-        assert_eq!(library::delete(table, cards[item % cards.len()], arity, &mut count), 0);
+        assert_eq!(library::delete(table, card(place, item), arity, &mut count), 0);
         count
     };
-    let twins = |table: &mut [u8], item: usize| {
-        let answer = twin::delete(table, cards[item % cards.len()], arity);
+    let twins = |table: &mut [u8], place: usize, item: usize| {
+        let answer = twin::delete(table, card(place, item), arity);
         assert_eq!(answer.refusal, 0);
         answer.count
     };
-    same(&bench.full, own, twins);
-    let library = changing(&bench.full, |table, item| own(table, item));
-    let twin = changing(&bench.full, |table, item| twins(table, item));
-    scans(bench, Share::OneIn(100)).row(call, library, twin)
+    let starts: Vec<&[u8]> = tables.iter().map(|bench| &bench.full[..]).collect();
+    changed(call, tables, starts, own, twins)
 }
 
-/// What is timed does the same: count and every byte.
-fn same(start: &[u8], own: impl Fn(&mut [u8], usize) -> u32, twins: impl Fn(&mut [u8], usize) -> u32) {
-    for item in 0..ITEMS {
-        let (mut one, mut other) = (start.to_vec(), start.to_vec());
-        assert_eq!(own(&mut one, item), twins(&mut other, item));
-        assert!(one == other, "the twin leaves another table");
+/// The row of a call that changes its table. What is timed is seen to do the same: count and every byte.
+fn changed(
+    call: &'static str,
+    tables: &[Bench],
+    starts: Vec<&[u8]>,
+    own: impl Fn(&mut [u8], usize, usize) -> u32,
+    twins: impl Fn(&mut [u8], usize, usize) -> u32,
+) -> Row {
+    for (place, start) in starts.iter().enumerate() {
+        for item in 0..ITEMS {
+            let (mut one, mut other) = (start.to_vec(), start.to_vec());
+            assert_eq!(own(&mut one, place, item), twins(&mut other, place, item));
+            assert!(one == other, "the twin leaves another table");
+        }
     }
+    let (library, twin) = (changing(starts.clone(), own), changing(starts, twins));
+    Scans::of(tables, Share::OneIn(100)).row(call, library, twin)
 }
 
-fn search(bench: &Bench, call: &'static str, share: Share) -> Row {
-    let kind = bench.setting.kind;
-    let scans = scans(bench, share);
-    let query = |item: usize| (&scans.queries[item % ITEMS], scans.radii[item % ITEMS]);
-    let own = |item: usize, list: &mut [u32]| {
-        let ((query, radius), mut count, mut found) = (query(item), 0, 0);
-        let table = black_box(scans.table);
-        assert_eq!(library::search(table, kind, query, radius, list, &mut count, &mut found), 0);
+fn search(tables: &[Bench], call: &'static str, share: Share) -> Row {
+    let scans = Scans::of(tables, share);
+    let own = |table: usize, item: usize, list: &mut [u32]| {
+        let (lent, mut count, mut found) = (scans.search(table, item, list), 0, 0);
+        let Search { kind, signature, radius, list } = lent;
+        assert_eq!(library::search(scans.table(table), kind, signature, radius, list, &mut count, &mut found), 0);
         (count, found)
     };
-    let twins = |item: usize, list: &mut [u32]| {
-        let (query, radius) = query(item);
-        let answer = twin::search(black_box(scans.table), kind, query, radius, list);
+    let twins = |table: usize, item: usize, list: &mut [u32]| {
+        let answer = twin::search(scans.table(table), scans.search(table, item, list));
         (answer.count, answer.found)
     };
-    let (mut one, mut other) = (vec![0; bench.setting.records], vec![0; bench.setting.records]);
-    for item in 0..ITEMS {
-        assert_eq!((own(item, &mut one), &one), (twins(item, &mut other), &other));
-        let (query, radius) = query(item);
-        let found = plain(scans.table, kind, query, radius, &mut vec![0; bench.setting.records]);
-        assert_eq!(own(item, &mut one).1 as usize, found);
+    let (mut one, mut other) = (scans.list(), scans.list());
+    for table in 0..tables.len() {
+        for item in 0..ITEMS {
+            assert_eq!((own(table, item, &mut one), &one), (twins(table, item, &mut other), &other));
+            let found = plain(scans.table(table), scans.search(table, item, &mut scans.list()));
+            assert_eq!(own(table, item, &mut one).1 as usize, found);
+        }
     }
-    let library = reading(|item| own(item, &mut one));
-    let twin = reading(|item| twins(item, &mut other));
+    let library = reading(tables.len(), |table, item| own(table, item, &mut one));
+    let twin = reading(tables.len(), |table, item| twins(table, item, &mut other));
     scans.row(call, library, twin)
 }
 
-fn check(bench: &Bench) -> Row {
-    let table = &bench.full;
-    let library = reading(|_| assert_eq!(library::check(black_box(table)), 0));
-    let twin = reading(|_| assert_eq!(twin::check(black_box(table)).refusal, 0));
-    scans(bench, Share::OneIn(100)).row("check", library, twin)
-}
-
-// ---- the worst shape ----
-
-/// A chain of 1,024 records, each the only child of the one before, all reached by their covering radii.
-pub fn measure_chain(print: &mut dyn FnMut(Row)) {
-    for kind in [1, 2] {
-        let mut random = Random::new(11);
-        let mut full = assemble::table(&mut random, MOST_RECORDS, MOST_RECORDS, Shape::Chain, Clock::Dense, kind);
-        full.chunks_mut(64).for_each(|record| record[8..12].fill(255));
-        let queries: Vec<Signature> = (0..ITEMS).map(|_| std::array::from_fn(|_| random.byte())).collect();
-        let setting = Setting { records: MOST_RECORDS, flavour: Flavour::Uniform, kind, arity: 1 };
-        let bench = Bench { setting, room: full.clone(), full, queries };
-        let everything = Scans { radii: vec![u32::MAX; ITEMS], ..scans(&bench, Share::OneIn(100)) };
-        let (mut one, mut other) = (vec![0; MOST_RECORDS], vec![0; MOST_RECORDS]);
-        let (table, query) = (&bench.full, &bench.queries[0]);
-        let library = reading(|_| {
-            let (mut count, mut found) = (0, 0);
-            let table = black_box(table);
-            assert_eq!(library::search(table, kind, query, u32::MAX, &mut one, &mut count, &mut found), 0);
-            assert_eq!((count, found), (1024, 1024));
-        });
-        let twin = reading(|_| twin::search(black_box(table), kind, query, u32::MAX, &mut other));
-        print(everything.row("chain: search, all found", library, twin));
-        print(delete(&bench, "chain: delete, the root, arity 1", &[bench.root()]));
-        let library = reading(|_| assert_eq!(library::check(black_box(table)), 0));
-        let twin = reading(|_| assert_eq!(twin::check(black_box(table)).refusal, 0));
-        print(scans(&bench, Share::OneIn(100)).row("chain: check", library, twin));
-    }
+fn check(tables: &[Bench]) -> Row {
+    let scans = Scans::of(tables, Share::OneIn(100));
+    let library = reading(tables.len(), |table, _| assert_eq!(library::check(scans.table(table)), 0));
+    let twin = reading(tables.len(), |table, _| assert_eq!(twin::check(scans.table(table)).refusal, 0));
+    scans.row("check", library, twin)
 }

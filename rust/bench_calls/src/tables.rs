@@ -1,7 +1,8 @@
 //! The tables that are timed, and what is picked in them.
 
+use model::assemble::{self, Clock, Shape};
 use model::random::Random;
-use model::record::{parse_table, Record, RECORD};
+use model::record::{parse_table, Record, MOST_RECORDS, RECORD};
 use model::signature::{Flavour, Source};
 use twin::record::{distance, Signature};
 
@@ -23,6 +24,7 @@ pub struct Setting {
 pub enum Share {
     None,
     OneIn(usize),
+    All,
 }
 
 pub struct Bench {
@@ -59,6 +61,16 @@ impl Bench {
         bench
     }
 
+    /// A chain of 1,024 records, each the only child of the one before, all reached by their covering radii.
+    pub fn chain(kind: u8) -> Bench {
+        let mut random = Random::new(11);
+        let mut full = assemble::table(&mut random, MOST_RECORDS, MOST_RECORDS, Shape::Chain, Clock::Dense, kind);
+        full.chunks_mut(RECORD).for_each(|record| record[8..12].fill(255));
+        let queries = (0..ITEMS).map(|_| std::array::from_fn(|_| random.byte())).collect();
+        let setting = Setting { records: MOST_RECORDS, flavour: Flavour::Uniform, kind, arity: 1 };
+        Bench { setting, room: full.clone(), full, queries }
+    }
+
     /// The distances of all cards to the query, rising.
     fn distances(&self, query: &Signature) -> Vec<u32> {
         let records = parse_table(&self.full);
@@ -73,8 +85,14 @@ impl Bench {
         let radius = |query: &Signature| match share {
             Share::None => self.distances(query)[0] - 1,
             Share::OneIn(many) => self.distances(query)[(self.setting.records / many).max(1) - 1],
+            Share::All => u32::MAX,
         };
         self.queries.iter().map(radius).collect()
+    }
+
+    /// A card that is not stored.
+    pub fn new_card(&self) -> u32 {
+        1 + parse_table(&self.full).iter().map(|record| record.card).filter(|card| *card < u32::MAX).max().unwrap()
     }
 
     pub fn root(&self) -> u32 {

@@ -1,6 +1,7 @@
 //! The library's five functions behind one trait, so that a wrong library can be put in its place: as they are, and
 //! through the wrapper's typed calls.
 
+use model::index::Search;
 use plotvuga::{library, Kind, Refusal, Signature};
 
 /// The five functions: each returns the refusal number and sets its counts.
@@ -8,17 +9,7 @@ pub trait Doors {
     fn clear(&mut self, table: &mut [u8]) -> u32;
     fn insert(&mut self, table: &mut [u8], card: u32, kind: u8, arity: u8, signature: &[u8], count: &mut u32) -> u32;
     fn delete(&mut self, table: &mut [u8], card: u32, arity: u8, count: &mut u32) -> u32;
-    #[allow(clippy::too_many_arguments)]
-    fn search(
-        &mut self,
-        table: &[u8],
-        kind: u8,
-        signature: &[u8],
-        radius: u32,
-        list: &mut [u32],
-        count: &mut u32,
-        found: &mut u32,
-    ) -> u32;
+    fn search(&mut self, table: &[u8], lent: Search, count: &mut u32, found: &mut u32) -> u32;
     fn check(&mut self, table: &[u8]) -> u32;
 }
 
@@ -39,17 +30,8 @@ impl Doors for Linked {
         library::delete(table, card, arity, count)
     }
 
-    fn search(
-        &mut self,
-        table: &[u8],
-        kind: u8,
-        signature: &[u8],
-        radius: u32,
-        list: &mut [u32],
-        count: &mut u32,
-        found: &mut u32,
-    ) -> u32 {
-        library::search(table, kind, signature, radius, list, count, found)
+    fn search(&mut self, table: &[u8], lent: Search, count: &mut u32, found: &mut u32) -> u32 {
+        library::search(table, lent.kind, lent.signature, lent.radius, lent.list, count, found)
     }
 
     fn check(&mut self, table: &[u8]) -> u32 {
@@ -91,20 +73,11 @@ impl Doors for Typed {
         number(deleted)
     }
 
-    fn search(
-        &mut self,
-        table: &[u8],
-        kind: u8,
-        signature: &[u8],
-        radius: u32,
-        list: &mut [u32],
-        count: &mut u32,
-        found: &mut u32,
-    ) -> u32 {
-        let Some(signature) = typed(kind, signature) else {
-            return Linked.search(table, kind, signature, radius, list, count, found);
+    fn search(&mut self, table: &[u8], lent: Search, count: &mut u32, found: &mut u32) -> u32 {
+        let Some(signature) = typed(lent.kind, lent.signature) else {
+            return Linked.search(table, lent, count, found);
         };
-        let listed = plotvuga::search(table, &signature, radius, list);
+        let listed = plotvuga::search(table, &signature, lent.radius, lent.list);
         *count = listed.map_or(0, |listed| listed.distances);
         *found = listed.map_or(0, |listed| listed.cards.len() as u32);
         number(listed)

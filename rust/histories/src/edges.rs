@@ -54,26 +54,17 @@ impl Edge {
 
     fn search(self, value: u16, radius: u32, count: u32, cards: &[u32]) -> Edge {
         let places = self.start.len() / RECORD;
-        self.search_of(1, &reading(value), radius, places, DONE, count, cards)
-    }
-
-    #[allow(clippy::too_many_arguments)]
-    fn search_of(
-        self,
-        kind: u8,
-        query: &[u8],
-        radius: u32,
-        places: usize,
-        refusal: u32,
-        count: u32,
-        cards: &[u32],
-    ) -> Edge {
-        self.step(Command::Search { kind, signature: query.to_vec(), radius, places }, refusal, count, cards)
+        self.step(sought(1, &reading(value), radius, places), DONE, count, cards)
     }
 
     fn check(self, refusal: u32) -> Edge {
         self.step(Command::Check, refusal, 0, &[])
     }
+}
+
+/// A search with a list of so many places.
+fn sought(kind: u8, query: &[u8], radius: u32, places: usize) -> Command {
+    Command::Search { kind, signature: query.to_vec(), radius, places }
 }
 
 const LISTING: [(u32, u16); 6] = [(11, 50), (12, 80), (13, 20), (14, 52), (15, 40), (16, 78)];
@@ -120,8 +111,8 @@ fn listing() -> Vec<Edge> {
 fn distances() -> Vec<Edge> {
     let far = |name: &str, kind: u8, most: u32| {
         let edge = Edge::new(name, vec![0; 64]).insert_of(7, kind, &[0; 32], 1, DONE, 0);
-        let edge = edge.search_of(kind, &[255; 32], most - 1, 1, DONE, 1, &[]);
-        edge.search_of(kind, &[255; 32], most, 1, DONE, 1, &[7])
+        let edge = edge.step(sought(kind, &[255; 32], most - 1, 1), DONE, 1, &[]);
+        edge.step(sought(kind, &[255; 32], most, 1), DONE, 1, &[7])
     };
     vec![
         far("P10: all readings 0 against all 65,535 is 1,048,560", 1, 1_048_560),
@@ -136,7 +127,7 @@ fn sizes() -> Vec<Edge> {
     for length in [0, 1, 63, 65, 65_535, 65_537, 65_600] {
         let edge = Edge::new(format!("length {length} gives 1"), vec![9; length]);
         let edge = edge.clear(SIZE).insert(1, 3, 1, SIZE, 0).insert_of(0, 0, &[], 0, SIZE, 0);
-        let edge = edge.delete(0, 0, SIZE, 0).search_of(0, &[], 0, 0, SIZE, 0, &[]);
+        let edge = edge.delete(0, 0, SIZE, 0).step(sought(0, &[], 0, 0), SIZE, 0, &[]);
         edges.push(edge.check(SIZE));
     }
     for length in [64, 65_536] {
@@ -186,29 +177,31 @@ fn order_of_refusals() -> Vec<Edge> {
     let mut bad = after_line_6();
     bad[15] = 3;
     let table = Edge::new("TABLE before ARGUMENT", bad).insert_of(0, 0, &[], 0, TABLE, 0).delete(0, 0, TABLE, 0);
-    let table = table.search_of(0, &[], 0, 0, TABLE, 0, &[]).check(TABLE);
+    let table = table.step(sought(0, &[], 0, 0), TABLE, 0, &[]).check(TABLE);
 
     let argument = Edge::new("ARGUMENT before KIND, TWICE, ABSENT and SHORT", after_line_6());
     let argument = argument.insert_of(0, 2, &reading(1), 2, ARGUMENT, 0).insert_of(11, 2, &[0; 31], 2, ARGUMENT, 0);
     let argument = argument.insert_of(11, 3, &reading(1), 2, ARGUMENT, 0).delete(0, 2, ARGUMENT, 0);
-    let argument = argument.delete(99, 0, ARGUMENT, 0).search_of(2, &[0; 33], 0, 0, ARGUMENT, 0, &[]);
-    let argument = argument.search_of(0, &reading(1), 0, 0, ARGUMENT, 0, &[]);
+    let argument = argument.delete(99, 0, ARGUMENT, 0).step(sought(2, &[0; 33], 0, 0), ARGUMENT, 0, &[]);
+    let argument = argument.step(sought(0, &reading(1), 0, 0), ARGUMENT, 0, &[]);
 
     let kind =
         Edge::new("KIND before TWICE, FULL, CLOCK and SHORT", with_timestamp(&after_line_6()[..6 * 64], 5, u32::MAX));
     let kind = kind.insert_of(11, 2, &reading(1), 2, KIND, 0).insert_of(17, 2, &reading(1), 2, KIND, 0);
-    let kind = kind.search_of(2, &reading(1), 0, 0, KIND, 0, &[]);
+    let kind = kind.step(sought(2, &reading(1), 0, 0), KIND, 0, &[]);
 
     let full = Edge::new("full table and a stored card: 5, not 7", after_line_6()[..6 * 64].to_vec());
     let full = full.insert(14, 1, 2, TWICE, 0).insert(17, 1, 2, FULL, 0);
     let worn = Edge::new("FULL before CLOCK", with_timestamp(&after_line_6()[..6 * 64], 5, u32::MAX));
 
     let short = Edge::new("SHORT by the used records, not by what is found", after_line_6());
-    let short = short.search_of(1, &reading(40), 0, 5, SHORT, 0, &[]).search_of(1, &reading(40), 0, 0, SHORT, 0, &[]);
-    let short = short.search_of(1, &reading(40), 0, 6, DONE, 4, &[15]);
+    let short =
+        short.step(sought(1, &reading(40), 0, 5), SHORT, 0, &[]).step(sought(1, &reading(40), 0, 0), SHORT, 0, &[]);
+    let short = short.step(sought(1, &reading(40), 0, 6), DONE, 4, &[15]);
 
     let free = Edge::new("a free table takes either kind and needs no list", vec![0; 64]);
-    let free = free.search_of(2, &reading(1), u32::MAX, 0, DONE, 0, &[]).search_of(1, &reading(1), 0, 0, DONE, 0, &[]);
+    let free =
+        free.step(sought(2, &reading(1), u32::MAX, 0), DONE, 0, &[]).step(sought(1, &reading(1), 0, 0), DONE, 0, &[]);
     let only = Edge::new("deleting the only card leaves all zeros", vec![0; 3 * 64]);
     let only = only.insert_of(u32::MAX, 2, &[255; 32], 8, DONE, 0).delete(u32::MAX, 8, DONE, 0);
     vec![table, argument, kind, full, worn.insert(17, 1, 2, FULL, 0), short, free.check(DONE), only.check(DONE)]

@@ -2,7 +2,7 @@
 //! what was lent to be read, or a count that was not set is seen.
 
 use crate::doors::Doors;
-use model::index::{Answer, Index};
+use model::index::{Answer, Index, Search};
 
 /// Guards on either side, in entries.
 const GUARD: usize = 48;
@@ -88,7 +88,7 @@ impl<D: Doors> Index for Guarded<D> {
         let mut lent = Lent::new(table, self.shift(), 0xa5);
         let refusal = self.doors.clear(lent.content_mut());
         table.copy_from_slice(lent.content());
-        self.told(Answer { refusal, count: 0, found: 0 }, &[(lent.guards_hold(), TABLE_GUARDS)])
+        self.told(Answer::refused(refusal), &[(lent.guards_hold(), TABLE_GUARDS)])
     }
 
     fn insert(&mut self, table: &mut [u8], card: u32, kind: u8, signature: &[u8], arity: u8) -> Answer {
@@ -116,26 +116,20 @@ impl<D: Doors> Index for Guarded<D> {
         self.told(Answer { refusal, count: counts.content()[0], found: 0 }, &promises)
     }
 
-    fn search(&mut self, table: &[u8], kind: u8, signature: &[u8], radius: u32, list: &mut [u32]) -> Answer {
-        let lent = Lent::new(table, self.shift(), 0xa5);
-        let query = Lent::new(signature, self.shift(), 0x5a);
-        let mut cards = Lent::new(list, self.shift(), 0xfeed);
+    fn search(&mut self, table: &[u8], lent: Search) -> Answer {
+        let bytes = Lent::new(table, self.shift(), 0xa5);
+        let query = Lent::new(lent.signature, self.shift(), 0x5a);
+        let mut cards = Lent::new(lent.list, self.shift(), 0xfeed);
         let (mut counts, mut founds) = (Lent::new(&[NOT_SET], 0, 0xc0de), Lent::new(&[NOT_SET], 0, 0xc0de));
-        let refusal = self.doors.search(
-            lent.content(),
-            kind,
-            query.content(),
-            radius,
-            cards.content_mut(),
-            &mut counts.content_mut()[0],
-            &mut founds.content_mut()[0],
-        );
-        list.copy_from_slice(cards.content());
+        let guarded = Search { signature: query.content(), list: cards.content_mut(), ..lent };
+        let (count, found) = (&mut counts.content_mut()[0], &mut founds.content_mut()[0]);
+        let refusal = self.doors.search(bytes.content(), guarded, count, found);
+        lent.list.copy_from_slice(cards.content());
         let promises = [
-            (lent.guards_hold(), TABLE_GUARDS),
-            (lent.is_still(table), TABLE_READ),
+            (bytes.guards_hold(), TABLE_GUARDS),
+            (bytes.is_still(table), TABLE_READ),
             (query.guards_hold(), SIGNATURE_GUARDS),
-            (query.is_still(signature), SIGNATURE_READ),
+            (query.is_still(lent.signature), SIGNATURE_READ),
             (cards.guards_hold(), LIST_GUARDS),
             (counts.guards_hold() && founds.guards_hold(), COUNT_GUARDS),
         ];
@@ -146,6 +140,6 @@ impl<D: Doors> Index for Guarded<D> {
         let lent = Lent::new(table, self.shift(), 0xa5);
         let refusal = self.doors.check(lent.content());
         let promises = [(lent.guards_hold(), TABLE_GUARDS), (lent.is_still(table), TABLE_READ)];
-        self.told(Answer { refusal, count: 0, found: 0 }, &promises)
+        self.told(Answer::refused(refusal), &promises)
     }
 }

@@ -89,3 +89,8 @@ pub fn some_card(random: &mut Random, table: &[u8], role: Role) -> Option<u32> {
 pub fn used(table: &[u8]) -> usize {
     parse_table(table).iter().filter(|record| record.used()).count()
 }
+
+/// The kind of the table's cards; 1 for a free table, which takes either.
+pub fn kind_of(table: &[u8]) -> u8 {
+    parse_table(table).iter().find(|record| record.used()).map_or(1, |record| record.kind)
+}

@@ -2,6 +2,7 @@
 
 use histories::doors::{Doors, Linked};
 use histories::groups::{run_all, Report};
+use model::index::Search;
 
 /// One way of being wrong at the doors.
 #[derive(Clone, Copy, Debug, PartialEq, Eq)]
@@ -78,18 +79,10 @@ impl Doors for Wrong {
         Linked.delete(table, card, arity, count)
     }
 
-    fn search(
-        &mut self,
-        table: &[u8],
-        kind: u8,
-        signature: &[u8],
-        radius: u32,
-        list: &mut [u32],
-        count: &mut u32,
-        found: &mut u32,
-    ) -> u32 {
+    fn search(&mut self, table: &[u8], lent: Search, count: &mut u32, found: &mut u32) -> u32 {
         let before = *found;
-        let refusal = Linked.search(table, kind, signature, radius, list, count, found);
+        let list = lent.list;
+        let refusal = Linked.search(table, Search { list: &mut *list, ..lent }, count, found);
         match self.0 {
             Slip::FoundNotSet if refusal != 0 => *found = before,
             Slip::PastList => write(list.as_ptr().wrapping_add(list.len()), 0),

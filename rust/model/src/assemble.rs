@@ -72,34 +72,14 @@ pub fn table(random: &mut Random, records: usize, used: usize, shape: Shape, clo
         random.shuffle(&mut slots);
     }
     let timestamps = rising(random, used, clock);
-    let cards = match random.below(3) {
-        0 => random.distinct(used, 1, u64::from(u32::MAX)),
-        1 => random.distinct(used, 1, 4096),
-        _ => coarse(random, used),
-    };
+    let cards = some_cards(random, used);
     let mut source = Source::any_flavour(random, kind);
     let any_radius = random.percent(70);
-    // The places, by age, of records that can take another child.
-    let mut open: Vec<usize> = Vec::new();
-    for age in 0..used {
-        let mut parent = NO_SLOT;
-        if age > 0 {
-            let place = match shape {
-                Shape::Chain => open.len() - 1,
-                Shape::Full => 0,
-                Shape::Random => random.below(open.len()),
-                Shape::Deep => open.len() - 1 - random.below(open.len().min(4)),
-            };
-            let older = open[place];
-            parent = slots[older];
-            let record = &mut row[usize::from(parent)];
-            let children = [record.children(), &[slots[age]]].concat();
-            record.set_children(&children);
-            if children.len() == CHILD_SLOTS {
-                open.remove(place);
-            }
-        }
-        let record = &mut row[usize::from(slots[age])];
+    // The slots, oldest first, of records that can take another child.
+    let mut open: Vec<u16> = Vec::new();
+    for (age, slot) in slots.into_iter().take(used).enumerate() {
+        let parent = if age == 0 { NO_SLOT } else { hang(random, shape, &mut row, &mut open, slot) };
+        let record = &mut row[usize::from(slot)];
         record.card = cards[age];
         record.timestamp = timestamps[age];
         record.radius = if any_radius { random.number() } else { 0 };
@@ -107,9 +87,35 @@ pub fn table(random: &mut Random, records: usize, used: usize, shape: Shape, clo
         record.kind = kind;
         record.signature = source.next(random);
         record.set_children(&[]);
-        open.push(age);
+        open.push(slot);
     }
     table_bytes(&row)
+}
+
+/// Makes the slot the youngest child of an open record, as the shape has it; returns that record's slot.
+fn hang(random: &mut Random, shape: Shape, row: &mut [Record], open: &mut Vec<u16>, slot: u16) -> u16 {
+    let place = match shape {
+        Shape::Chain => open.len() - 1,
+        Shape::Full => 0,
+        Shape::Random => random.below(open.len()),
+        Shape::Deep => open.len() - 1 - random.below(open.len().min(4)),
+    };
+    let parent = open[place];
+    let record = &mut row[usize::from(parent)];
+    let children = [record.children(), &[slot]].concat();
+    record.set_children(&children);
+    if children.len() == CHILD_SLOTS {
+        open.remove(place);
+    }
+    parent
+}
+
+fn some_cards(random: &mut Random, many: usize) -> Vec<u32> {
+    match random.below(3) {
+        0 => random.distinct(many, 1, u64::from(u32::MAX)),
+        1 => random.distinct(many, 1, 4096),
+        _ => coarse(random, many),
+    }
 }
 
 fn rising(random: &mut Random, many: usize, clock: Clock) -> Vec<u32> {

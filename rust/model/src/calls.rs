@@ -1,7 +1,7 @@
 //! The five calls: refusals in the paper's order, then the work on a tree of the table, then the table's bytes again.
 
 use crate::distance::{Signature, FAULT_BITS, READINGS};
-use crate::index::{Answer, Index};
+use crate::index::{Answer, Index, Search};
 use crate::judge::{judge, size_is_right, Verdict};
 use crate::refusal::{ABSENT, ARGUMENT, CLOCK, DONE, FULL, KIND, LOOSE, SHORT, SIZE, TABLE, TWICE};
 use crate::soundness::sound;
@@ -16,10 +16,6 @@ impl Model {
     pub fn cards(table: &[u8]) -> Vec<u32> {
         Tree::of(table).nodes().iter().map(|node| node.card).collect()
     }
-}
-
-fn refused(refusal: u32) -> Answer {
-    Answer { refusal, count: 0, found: 0 }
 }
 
 /// The tree of the table, or the refusal that every call but clear begins with.
@@ -78,45 +74,45 @@ fn delete(table: &mut [u8], card: u32, arity: u8) -> Result<Answer, u32> {
     Ok(Answer { refusal: DONE, count, found: 0 })
 }
 
-fn search(table: &[u8], kind: u8, signature: &[u8], radius: u32, list: &mut [u32]) -> Result<Answer, u32> {
+fn search(table: &[u8], lent: Search) -> Result<Answer, u32> {
     let tree = admit(table)?;
-    demand(kind_is_right(kind), ARGUMENT)?;
-    let query = whole(signature).ok_or(ARGUMENT)?;
-    demand(tree.root.is_none() || tree.kind == kind, KIND)?;
-    demand(list.len() >= tree.nodes().len(), SHORT)?;
-    let walk = tree.search(&query, radius);
-    list[..walk.listed.len()].copy_from_slice(&walk.listed);
+    demand(kind_is_right(lent.kind), ARGUMENT)?;
+    let query = whole(lent.signature).ok_or(ARGUMENT)?;
+    demand(tree.root.is_none() || tree.kind == lent.kind, KIND)?;
+    demand(lent.list.len() >= tree.nodes().len(), SHORT)?;
+    let walk = tree.search(&query, lent.radius);
+    lent.list[..walk.listed.len()].copy_from_slice(&walk.listed);
     Ok(Answer { refusal: DONE, count: tree.compared(&walk), found: walk.listed.len() as u32 })
 }
 
 fn check(table: &[u8]) -> Result<Answer, u32> {
     let tree = admit(table)?;
     demand(sound(&tree), LOOSE)?;
-    Ok(refused(DONE))
+    Ok(Answer::refused(DONE))
 }
 
 impl Index for Model {
     fn clear(&mut self, table: &mut [u8]) -> Answer {
         if !size_is_right(table.len()) {
-            return refused(SIZE);
+            return Answer::refused(SIZE);
         }
         table.fill(0);
-        refused(DONE)
+        Answer::refused(DONE)
     }
 
     fn insert(&mut self, table: &mut [u8], card: u32, kind: u8, signature: &[u8], arity: u8) -> Answer {
-        insert(table, card, kind, signature, arity).unwrap_or_else(refused)
+        insert(table, card, kind, signature, arity).unwrap_or_else(Answer::refused)
     }
 
     fn delete(&mut self, table: &mut [u8], card: u32, arity: u8) -> Answer {
-        delete(table, card, arity).unwrap_or_else(refused)
+        delete(table, card, arity).unwrap_or_else(Answer::refused)
     }
 
-    fn search(&mut self, table: &[u8], kind: u8, signature: &[u8], radius: u32, list: &mut [u32]) -> Answer {
-        search(table, kind, signature, radius, list).unwrap_or_else(refused)
+    fn search(&mut self, table: &[u8], lent: Search) -> Answer {
+        search(table, lent).unwrap_or_else(Answer::refused)
     }
 
     fn check(&mut self, table: &[u8]) -> Answer {
-        check(table).unwrap_or_else(refused)
+        check(table).unwrap_or_else(Answer::refused)
     }
 }

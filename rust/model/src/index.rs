@@ -1,5 +1,15 @@
 //! What an index over a lent table offers: the five calls, each answering with its refusal and its counts.
 
+/// What a search is lent besides its table. Kind and signature stand as the caller gave them, right or wrong.
+#[derive(Debug)]
+pub struct Search<'a> {
+    pub kind: u8,
+    pub signature: &'a [u8],
+    pub radius: u32,
+    /// Where the cards found go, from its start.
+    pub list: &'a mut [u32],
+}
+
 /// What a call returns. Counts are 0 where the call reports none, and in every refusal.
 #[derive(Clone, Copy, Debug, Default, PartialEq, Eq)]
 pub struct Answer {
@@ -10,10 +20,17 @@ pub struct Answer {
     pub found: u32,
 }
 
+impl Answer {
+    /// A refusal, or done where the call counts nothing.
+    pub fn refused(refusal: u32) -> Answer {
+        Answer { refusal, count: 0, found: 0 }
+    }
+}
+
 pub trait Index {
     fn clear(&mut self, table: &mut [u8]) -> Answer;
     fn insert(&mut self, table: &mut [u8], card: u32, kind: u8, signature: &[u8], arity: u8) -> Answer;
     fn delete(&mut self, table: &mut [u8], card: u32, arity: u8) -> Answer;
-    fn search(&mut self, table: &[u8], kind: u8, signature: &[u8], radius: u32, list: &mut [u32]) -> Answer;
+    fn search(&mut self, table: &[u8], lent: Search) -> Answer;
     fn check(&mut self, table: &[u8]) -> Answer;
 }

@@ -119,46 +119,84 @@ impl Clause {
 
     /// Whether the records violate this clause, read from the fields as they stand wherever a slot names a record.
     pub fn violated_by(self, records: &[Record]) -> bool {
-        let used = || records.iter().enumerate().filter(|(_, record)| record.used());
-        let roots = used().filter(|(_, record)| record.is_root()).count();
-        let below_root = || used().filter(|(_, record)| !record.is_root());
-        let named = |slot: u16| records.get(usize::from(slot));
-        // Every used record that names a parent in the table, with its slot and that parent.
-        let with_parent = || {
-            below_root().filter_map(|(slot, record)| named(record.parent).map(|parent| (slot as u16, record, parent)))
-        };
-        let times_in_parent = |slot: u16, parent: &Record| parent.children().iter().filter(|c| **c == slot).count();
-        // Every child slot within the count: the slot of its record, and the record that it names, if any.
-        let links = || used().flat_map(|(slot, a)| a.children().iter().map(move |child| (slot as u16, named(*child))));
-
+        let row = Row(records);
+        let of_used = |wrong: fn(&Record) -> bool| row.used().any(|(_, record)| wrong(record));
         match self {
             Clause::FreeNotZero => records.iter().any(|record| !record.used() && *record != Record::free()),
-            Clause::TimestampZero => used().any(|(_, record)| record.timestamp == 0),
-            Clause::CountOverEight => used().any(|(_, record)| usize::from(record.count) > CHILD_SLOTS),
-            Clause::KindUnknown => used().any(|(_, record)| ![READINGS, FAULT_BITS].contains(&record.kind)),
-            Clause::SlotPastCount => used().any(|(_, record)| {
+            Clause::TimestampZero => of_used(|record| record.timestamp == 0),
+            Clause::CountOverEight => of_used(|record| usize::from(record.count) > CHILD_SLOTS),
+            Clause::KindUnknown => of_used(|record| ![READINGS, FAULT_BITS].contains(&record.kind)),
+            Clause::SlotPastCount => of_used(|record| {
                 (0..CHILD_SLOTS).any(|place| place >= usize::from(record.count) && record.slots[place] != NO_SLOT)
             }),
-            Clause::EqualCards => used().map(|(_, record)| record.card).collect::<HashSet<_>>().len() < used().count(),
-            Clause::EqualTimestamps => {
-                used().map(|(_, record)| record.timestamp).collect::<HashSet<_>>().len() < used().count()
+            Clause::EqualCards => row.values(|record| record.card) < row.used().count(),
+            Clause::EqualTimestamps => row.values(|record| record.timestamp) < row.used().count(),
+            Clause::KindsDiffer => row.values(|record| u32::from(record.kind)) > 1,
+            Clause::NoRoot => row.used().count() > 0 && row.roots() == 0,
+            Clause::TwoRoots => row.roots() > 1,
+            Clause::ParentOutOfRange => row.below_root().any(|(_, record)| row.named(record.parent).is_none()),
+            Clause::ParentFree => row.with_parent().any(|(_, _, parent)| !parent.used()),
+            Clause::ParentNotOlder => row.with_parent().any(|(_, record, parent)| parent.timestamp >= record.timestamp),
+            Clause::MissingFromParent => row.with_parent().any(|(slot, _, parent)| times_in(parent, slot) == 0),
+            Clause::TwiceInParent => row.with_parent().any(|(slot, _, parent)| times_in(parent, slot) > 1),
+            Clause::ChildOutOfRange => row.links().any(|(_, child)| child.is_none()),
+            Clause::ChildFree => row.links().any(|(_, child)| child.is_some_and(|record| !record.used())),
+            Clause::ChildOfAnother => {
+                row.links().any(|(slot, child)| child.is_some_and(|record| record.parent != slot))
             }
-            Clause::KindsDiffer => used().map(|(_, record)| record.kind).collect::<HashSet<_>>().len() > 1,
-            Clause::NoRoot => used().count() > 0 && roots == 0,
-            Clause::TwoRoots => roots > 1,
-            Clause::ParentOutOfRange => below_root().any(|(_, record)| named(record.parent).is_none()),
-            Clause::ParentFree => with_parent().any(|(_, _, parent)| !parent.used()),
-            Clause::ParentNotOlder => with_parent().any(|(_, record, parent)| parent.timestamp >= record.timestamp),
-            Clause::MissingFromParent => with_parent().any(|(slot, _, parent)| times_in_parent(slot, parent) == 0),
-            Clause::TwiceInParent => with_parent().any(|(slot, _, parent)| times_in_parent(slot, parent) > 1),
-            Clause::ChildOutOfRange => links().any(|(_, child)| child.is_none()),
-            Clause::ChildFree => links().any(|(_, child)| child.is_some_and(|record| !record.used())),
-            Clause::ChildOfAnother => links().any(|(slot, child)| child.is_some_and(|record| record.parent != slot)),
-            Clause::ChildrenNotRising => used().any(|(_, record)| {
-                let ages: Vec<u32> =
-                    record.children().iter().filter_map(|child| named(*child)).map(|child| child.timestamp).collect();
-                (0..ages.len()).any(|younger| (0..younger).any(|older| ages[older] >= ages[younger]))
-            }),
+            Clause::ChildrenNotRising => row.used().any(|(_, record)| !row.children_rise(record)),
         }
+    }
+}
+
+/// How often a slot stands among a record's child slots.
+fn times_in(parent: &Record, slot: u16) -> usize {
+    parent.children().iter().filter(|child| **child == slot).count()
+}
+
+/// The records of a table being judged, and what the clauses speak of.
+#[derive(Clone, Copy)]
+struct Row<'a>(&'a [Record]);
+
+impl<'a> Row<'a> {
+    /// Every used record with its slot.
+    fn used(self) -> impl Iterator<Item = (u16, &'a Record)> {
+        self.0.iter().enumerate().filter(|(_, record)| record.used()).map(|(slot, record)| (slot as u16, record))
+    }
+
+    fn roots(self) -> usize {
+        self.used().filter(|(_, record)| record.is_root()).count()
+    }
+
+    fn below_root(self) -> impl Iterator<Item = (u16, &'a Record)> {
+        self.used().filter(|(_, record)| !record.is_root())
+    }
+
+    /// The record that a slot number names, if there is one.
+    fn named(self, slot: u16) -> Option<&'a Record> {
+        self.0.get(usize::from(slot))
+    }
+
+    /// How many distinct values the used records have.
+    fn values(self, value: fn(&Record) -> u32) -> usize {
+        self.used().map(|(_, record)| value(record)).collect::<HashSet<_>>().len()
+    }
+
+    /// Every used record that names a parent in the table, with its slot and that parent.
+    fn with_parent(self) -> impl Iterator<Item = (u16, &'a Record, &'a Record)> {
+        let parent = move |(slot, record): (u16, &'a Record)| Some((slot, record, self.named(record.parent)?));
+        self.below_root().filter_map(parent)
+    }
+
+    /// Every child slot within the count: the slot of its record, and the record that it names, if any.
+    fn links(self) -> impl Iterator<Item = (u16, Option<&'a Record>)> {
+        self.used().flat_map(move |(slot, a)| a.children().iter().map(move |child| (slot, self.named(*child))))
+    }
+
+    /// Whether the children that are there stand in rising timestamp order, each against all before it.
+    fn children_rise(self, record: &Record) -> bool {
+        let children = record.children().iter().filter_map(|child| self.named(*child));
+        let ages: Vec<u32> = children.map(|child| child.timestamp).collect();
+        (0..ages.len()).all(|younger| (0..younger).all(|older| ages[older] < ages[younger]))
     }
 }

@@ -1,6 +1,6 @@
 //! The bench program: command records of 48 bytes in, one line out for each.
 
-use crate::index::{Answer, Index};
+use crate::index::{Answer, Index, Search};
 use crate::record::RECORD;
 use crate::refusal::ARGUMENT;
 
@@ -37,9 +37,9 @@ pub fn run(index: &mut dyn Index, input: &[u8]) -> String {
         let answer = match bytes[0] {
             INSERT => index.insert(&mut table, card, kind, signature, arity),
             DELETE => index.delete(&mut table, card, arity),
-            SEARCH => index.search(&table, kind, signature, radius, &mut list),
+            SEARCH => index.search(&table, Search { kind, signature, radius, list: &mut list }),
             CHECK => index.check(&table),
-            _ => Answer { refusal: ARGUMENT, count: 0, found: 0 },
+            _ => Answer::refused(ARGUMENT),
         };
         printed += &format!("{} {} {} {}", before + 1, answer.refusal, answer.count, answer.found);
         list[..answer.found as usize].iter().for_each(|card| printed += &format!(" {card}"));

@@ -113,12 +113,12 @@ impl Tree {
     }
 
     pub fn search(&self, query: &Signature, radius: u32) -> Walk {
-        let mut walk = Walk::default();
+        let mut range = Range { kind: self.kind, query, r: u64::from(radius), walk: Walk::default() };
         if let Some(root) = &self.root {
             let no_bound = u64::MAX;
-            root.visit(root.far(self.kind, query), no_bound, self.kind, query, u64::from(radius), &mut walk);
+            range.visit(root, range.far(root), no_bound);
         }
-        walk
+        range.walk
     }
 
     /// The distance count of a search: 1 and the child counts of the entered records, 0 in a free table.
@@ -203,19 +203,33 @@ impl Node {
         into.push(self);
         children.into_iter().for_each(|child| child.fell(into));
     }
+}
+
+/// A search on its way: what it looks for, and what it came upon so far.
+struct Range<'a> {
+    kind: u8,
+    query: &'a Signature,
+    r: u64,
+    walk: Walk,
+}
+
+impl Range<'_> {
+    fn far(&self, node: &Node) -> u64 {
+        node.far(self.kind, self.query)
+    }
 
     /// Search's visit of a, whose distance to the query is known, with bound t on time.
-    fn visit(&self, from_a: u64, t: u64, kind: u8, query: &Signature, r: u64, walk: &mut Walk) {
-        let a = self;
+    fn visit(&mut self, a: &Node, from_a: u64, t: u64) {
+        let r = self.r;
         let entered = u64::from(a.timestamp) < t && from_a <= u64::from(a.radius) + r;
         if !entered {
             return;
         }
-        walk.entered.push(a.children.len());
+        self.walk.entered.push(a.children.len());
         if from_a <= r {
-            walk.listed.push(a.card);
+            self.walk.listed.push(a.card);
         }
-        let compared: Vec<u64> = a.children.iter().map(|child| child.far(kind, query)).collect();
+        let compared: Vec<u64> = a.children.iter().map(|child| self.far(child)).collect();
         for (place, child) in a.children.iter().enumerate() {
             let here = compared[place];
             let visited = match compared[..place].iter().min() {
@@ -226,7 +240,7 @@ impl Node {
                 let younger = place + 1..a.children.len();
                 let nearer = younger.filter(|c| here > compared[*c] + 2 * r);
                 let bound = nearer.map(|c| u64::from(a.children[c].timestamp)).chain([t]).min().unwrap();
-                child.visit(here, bound, kind, query, r, walk);
+                self.visit(child, here, bound);
             }
         }
     }

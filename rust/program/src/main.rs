@@ -35,36 +35,45 @@ fn named(random: &mut Random) -> Vec<(String, Vec<u8>, Pieces)> {
     list
 }
 
-fn compare(path: &str, seed: u64, amount: usize) -> (usize, usize) {
-    let mut random = Random::new(seed);
-    let mut inputs = named(&mut random);
+/// The named inputs, so many random histories, and a long one last.
+fn inputs(random: &mut Random, amount: usize) -> Vec<(String, Vec<u8>, Pieces)> {
+    let mut inputs = named(random);
     for round in 0..amount {
         let many = random.from_to(1, 400) as usize;
-        let mut input = Writer::new(&mut random).commands(&mut random, many);
+        let mut input = Writer::new(random).commands(random, many);
         input.truncate(input.len() - random.pick(&[0, 0, 0, 1, 47]));
         inputs.push((format!("history {}", round + 1), input, random.pick(&[Pieces::Whole, Pieces::Some])));
     }
-    let long = Writer::new(&mut random).commands(&mut random, 10_000);
+    let long = Writer::new(random).commands(random, 10_000);
     inputs.push(("a history of 10,000 commands".to_string(), long, Pieces::Whole));
+    inputs
+}
 
+/// The first line that the program printed otherwise, in words.
+fn first_difference(printed: &str, right: &str) -> String {
+    let number = printed.lines().zip(right.lines()).take_while(|(own, right)| own == right).count();
+    let line = |text: &str| text.lines().nth(number).unwrap_or("the end").to_string();
+    format!("line {}: {:?} and not {:?}", number + 1, line(printed), line(right))
+}
+
+/// What the program at the path prints, held against the model; returns how many inputs passed and how many failed.
+fn compare(path: &str, seed: u64, amount: usize) -> (usize, usize) {
+    let inputs = inputs(&mut Random::new(seed), amount);
     let (mut passed, mut failed, mut lines) = (0, 0, 0);
     let mut last = Duration::ZERO;
     for (name, input, pieces) in &inputs {
         let right = program::run(&mut Model, input);
         lines += right.lines().count();
-        let printed = pipe::run(path, input, *pieces).map(|(printed, time)| {
-            last = time;
-            printed
-        });
-        match printed {
-            Ok(printed) if printed == right => passed += 1,
-            Ok(printed) => {
-                failed += 1;
-                let number = printed.lines().zip(right.lines()).take_while(|(own, right)| own == right).count();
-                let line = |text: &str| text.lines().nth(number).unwrap_or("the end").to_string();
-                println!("FAILED: {name}: line {}: {:?} and not {:?}", number + 1, line(&printed), line(&right));
+        let wrong = match pipe::run(path, input, *pieces) {
+            Ok((printed, time)) => {
+                last = time;
+                (printed != right).then(|| first_difference(&printed, &right))
             }
-            Err(why) => {
+            Err(why) => Some(why),
+        };
+        match wrong {
+            None => passed += 1,
+            Some(why) => {
                 failed += 1;
                 println!("FAILED: {name}: {why}");
             }

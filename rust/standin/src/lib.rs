@@ -1,7 +1,7 @@
 //! The twin behind the library's C functions, as include/plotvuga.h has them. No part of the product.
 
 use std::slice::{from_raw_parts, from_raw_parts_mut};
-use twin::Answer;
+use twin::{Answer, Search};
 
 /// Counts as the header has them: set by every call, to 0 in a refusal.
 ///
@@ -70,7 +70,8 @@ pub unsafe extern "C" fn plotvuga_search(
     found: *mut u32,
 ) -> u32 {
     let (table, signature) = unsafe { (from_raw_parts(table, table_len), from_raw_parts(signature, signature_len)) };
-    let answer = twin::search(table, kind, signature, radius, unsafe { from_raw_parts_mut(list, list_len) });
+    let lent = Search { kind, signature, radius, list: unsafe { from_raw_parts_mut(list, list_len) } };
+    let answer = twin::search(table, lent);
     if cfg!(feature = "writes_past_list") && answer.refusal == 0 {
         unsafe { list.add(list_len).write(0) };
     }

@@ -6,22 +6,9 @@ use crate::record::{
     card, child, count, parent, records, records_mut, set_child, timestamp, Record, Signature, CHILD_SLOTS,
     MOST_RECORDS, NO_SLOT, RECORD,
 };
-use crate::refusal::{ABSENT, ARGUMENT, CLOCK, DONE, FULL, KIND, SHORT, SIZE, TABLE, TWICE};
 use crate::walk::Walk;
-
-/// What a call returns; counts are 0 in a refusal.
-#[derive(Clone, Copy, Debug, Default, PartialEq, Eq)]
-pub struct Answer {
-    pub refusal: u32,
-    pub count: u32,
-    pub found: u32,
-}
-
-impl Answer {
-    pub(crate) fn refused(refusal: u32) -> Answer {
-        Answer { refusal, count: 0, found: 0 }
-    }
-}
+use model::index::{Answer, Search};
+use model::refusal::{ABSENT, ARGUMENT, CLOCK, DONE, FULL, KIND, SHORT, SIZE, TABLE, TWICE};
 
 /// The survey of a table that every call but clear begins with, or its refusal.
 pub(crate) fn admit(table: &[u8]) -> Result<Survey, u32> {
@@ -89,39 +76,21 @@ fn try_delete(table: &mut [u8], old: u32, arity: u8) -> Result<Answer, u32> {
     }
     let table = records_mut(table);
     let target = table.iter().position(|record| card(record) == old).ok_or(ABSENT)?;
-
-    // All below the card, each with its age, in a list that is walked while it grows.
-    let mut below = [(0u32, 0u16); MOST_RECORDS];
+    let mut below = [(0, 0); MOST_RECORDS];
     let mut leaves = [false; MOST_RECORDS];
-    leaves[target] = true;
-    let (mut next, mut m) = (0, 0);
-    let mut a = target;
-    loop {
-        for place in 0..count(&table[a]) {
-            let c = child(&table[a], place);
-            leaves[usize::from(c)] = true;
-            below[m] = (timestamp(&table[usize::from(c)]), c);
-            m += 1;
-        }
-        if next == m {
-            break;
-        }
-        a = usize::from(below[next].1);
-        next += 1;
-    }
+    let below = gather(table, target, &mut below, &mut leaves);
     let staying = table.iter().zip(&leaves).filter(|(_, leaves)| !**leaves).map(|(record, _)| timestamp(record));
     let youngest = staying.max().unwrap_or(0);
-    youngest.checked_add(m as u32).ok_or(CLOCK)?;
+    youngest.checked_add(below.len() as u32).ok_or(CLOCK)?;
 
     let host = parent(&table[target]);
     if host != NO_SLOT {
         unlink(&mut table[usize::from(host)], target as u16);
     }
     table[target] = [0; RECORD];
-    let below = &mut below[..m];
     below.sort_unstable();
     let mut root = if host == NO_SLOT { None } else { Some(survey.root) };
-    let mut sum = 0;
+    let mut count = 0;
     for (fresh, (_, slot)) in (youngest + 1..).zip(below.iter()) {
         let slot = usize::from(*slot);
         match root {
@@ -129,10 +98,37 @@ fn try_delete(table: &mut [u8], old: u32, arity: u8) -> Result<Answer, u32> {
                 place_root(table, slot, fresh);
                 root = Some(slot);
             }
-            Some(root) => sum += place(table, root, slot, survey.kind, usize::from(arity), fresh),
+            Some(root) => count += place(table, root, slot, survey.kind, usize::from(arity), fresh),
         }
     }
-    Ok(Answer { refusal: DONE, count: sum, found: 0 })
+    Ok(Answer { refusal: DONE, count, found: 0 })
+}
+
+/// All below the card, each with its age, in a list that is walked while it grows. By slot, the card and all below it
+/// are set to leave.
+#[inline]
+fn gather<'a>(
+    table: &[Record],
+    target: usize,
+    below: &'a mut [(u32, u16); MOST_RECORDS],
+    leaves: &mut [bool; MOST_RECORDS],
+) -> &'a mut [(u32, u16)] {
+    leaves[target] = true;
+    let (mut next, mut many) = (0, 0);
+    let mut a = target;
+    loop {
+        for place in 0..count(&table[a]) {
+            let c = child(&table[a], place);
+            leaves[usize::from(c)] = true;
+            below[many] = (timestamp(&table[usize::from(c)]), c);
+            many += 1;
+        }
+        if next == many {
+            return &mut below[..many];
+        }
+        a = usize::from(below[next].1);
+        next += 1;
+    }
 }
 
 /// Takes the child out; later ones move up one place.
@@ -150,11 +146,12 @@ fn unlink(record: &mut Record, gone: u16) {
     record[14] = kept as u8;
 }
 
-pub fn search(table: &[u8], kind: u8, signature: &[u8], radius: u32, list: &mut [u32]) -> Answer {
-    try_search(table, kind, signature, radius, list).unwrap_or_else(Answer::refused)
+pub fn search(table: &[u8], lent: Search) -> Answer {
+    try_search(table, lent).unwrap_or_else(Answer::refused)
 }
 
-fn try_search(table: &[u8], kind: u8, signature: &[u8], radius: u32, list: &mut [u32]) -> Result<Answer, u32> {
+fn try_search(table: &[u8], lent: Search) -> Result<Answer, u32> {
+    let Search { kind, signature, radius, list } = lent;
     let survey = admit(table)?;
     let query: &Signature = signature.try_into().map_err(|_| ARGUMENT)?;
     if !(1..=2).contains(&kind) {

@@ -1,8 +1,9 @@
 //! Whether a well-formed table is sound: every record is held against each one above it, and their siblings.
 
-use crate::calls::{admit, Answer};
+use crate::calls::admit;
 use crate::record::{card, child, count, distance, parent, radius, records, signature, timestamp, Record, NO_SLOT};
-use crate::refusal::{DONE, LOOSE};
+use model::index::Answer;
+use model::refusal::{DONE, LOOSE};
 
 pub fn check(table: &[u8]) -> Answer {
     match admit(table) {

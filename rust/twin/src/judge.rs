@@ -16,7 +16,7 @@ pub struct Survey {
 }
 
 pub fn size_is_right(length: usize) -> bool {
-    length % RECORD == 0 && (1..=MOST_RECORDS).contains(&(length / RECORD))
+    length.is_multiple_of(RECORD) && (1..=MOST_RECORDS).contains(&(length / RECORD))
 }
 
 /// The survey of a well-formed table, none of another. The length has been judged.

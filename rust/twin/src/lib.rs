@@ -6,8 +6,8 @@ pub mod check;
 pub mod judge;
 pub mod place;
 pub mod record;
-pub mod refusal;
 pub mod walk;
 
-pub use calls::{clear, delete, insert, search, Answer};
+pub use calls::{clear, delete, insert, search};
 pub use check::check;
+pub use model::index::{Answer, Search};

@@ -3,36 +3,32 @@
 use model::calls::Model;
 use model::compare::{compare, Tally};
 use model::history::{any_history, full_table, history, Manner};
-use model::index::{Answer, Index};
+use model::index::{Answer, Index, Search};
 use model::random::Random;
 use model::record::RECORD;
 use model::signature::Source;
 
 struct Twin;
 
-fn answer(from: twin::Answer) -> Answer {
-    Answer { refusal: from.refusal, count: from.count, found: from.found }
-}
-
 impl Index for Twin {
     fn clear(&mut self, table: &mut [u8]) -> Answer {
-        answer(twin::clear(table))
+        twin::clear(table)
     }
 
     fn insert(&mut self, table: &mut [u8], card: u32, kind: u8, signature: &[u8], arity: u8) -> Answer {
-        answer(twin::insert(table, card, kind, signature, arity))
+        twin::insert(table, card, kind, signature, arity)
     }
 
     fn delete(&mut self, table: &mut [u8], card: u32, arity: u8) -> Answer {
-        answer(twin::delete(table, card, arity))
+        twin::delete(table, card, arity)
     }
 
-    fn search(&mut self, table: &[u8], kind: u8, signature: &[u8], radius: u32, list: &mut [u32]) -> Answer {
-        answer(twin::search(table, kind, signature, radius, list))
+    fn search(&mut self, table: &[u8], lent: Search) -> Answer {
+        twin::search(table, lent)
     }
 
     fn check(&mut self, table: &[u8]) -> Answer {
-        answer(twin::check(table))
+        twin::check(table)
     }
 }
 

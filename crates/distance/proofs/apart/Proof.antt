@@ -18,7 +18,9 @@ returns c = rw (eq-eqb _ _ (c .before .if1 .taken)) (c .readings-apart .ensures)
 
 returns-2 : tie.Need-returns-2
 unfolding apart
-returns-2 c = rw (ne-eqb _ _ (c .before .if1 .left)) (c .masks-apart .ensures .0, omega (arith, c .masks-apart .ensures .1))
+returns-2 c =
+    let masks = c .masks-apart .ensures in
+    rw (ne-eqb _ _ (c .before .if1 .left)) (masks .0, omega (arith, masks .1))
 
 pub apart-spec : {M : Type 1} → statement M
 apart-spec = tie.close (tie.spec readings-apart-requires masks-apart-requires returns returns-2)

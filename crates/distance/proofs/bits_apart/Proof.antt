@@ -1,3 +1,5 @@
+-- `distance::bits_apart` meets its contract: the code is the definition, and two words of 64 bits differ in 64 at most.
+-- Assumes nothing.
 use mathlib.Core.Path.{refl}
 use Rattle.distance.specs.Mask.{bitsApart, bits-at-most}
 use Rattle.distance.proofs.bits_apart.Statement.{statement}

@@ -1,4 +1,5 @@
--- `distance::masks_apart` meets its contract. The loop's invariant: the sum is that of the words passed. Assumes nothing.
+-- `distance::masks_apart` meets its contract.
+-- The loop's invariant: the sum is that of the words passed. Assumes nothing.
 use Prim.Native.Nat.{_≤_, _*_, _-_}
 use mathlib.Core.Path.{_≡_, ap₂, _∙_}
 use Rattle.places.specs.Sum.{sumTo, sum-more}

@@ -1,4 +1,5 @@
--- `distance::readings_apart` meets its contract. The loop's invariant: the sum is that of the differences passed. Assumes nothing.
+-- `distance::readings_apart` meets its contract.
+-- The loop's invariant: the sum is that of the differences passed. Assumes nothing.
 use Prim.Native.Nat.{_≤_, _*_, _-_}
 use mathlib.Core.Path.{_≡_}
 use Rattle.places.specs.Sum.{sumTo, sum-more}

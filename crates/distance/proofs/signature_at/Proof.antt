@@ -1,4 +1,5 @@
--- `distance::signature_at` meets its contract. The loop's invariant: the first k readings are those of the bytes. Assumes nothing.
+-- `distance::signature_at` meets its contract.
+-- The loop's invariant: the first k readings are those of the bytes. Assumes nothing.
 use Prim.Native.Nat.{_≤_, _-_}
 use mathlib.Core.Path.{_≡_, sym, _∙_}
 use lib.ListN.{length}

@@ -1,3 +1,5 @@
+-- `distance::word_of` meets its contract: the sum is the definition's, and four readings of 16 bits fit 64 bits.
+-- Assumes nothing.
 use Rattle.distance.specs.Signature.{wordOf}
 use borrow.Author.Needs.{needs}
 use Rattle.distance.proofs.word_of.Statement.{statement}

@@ -2,14 +2,14 @@
 -- are not 0. Assumes nothing.
 use Prim.Native.Nat.{ℕ, _-_, _≤_}
 use mathlib.Core.Path.{_≡_, refl, sym, ap, _∙_}
-use mathlib.Core.Logic.{⊎-elim}
 use native.Mathlib.Omega.{arith}
 use borrow.Author.Needs.{needs}
 use lib.ListN.{length, getD, take, length-set}
 use lib.Seq.{length-take-le}
+use Rattle.places.specs.Cases.{either}
 use Rattle.order.specs.Order.{distinct}
-use Rattle.distinct.specs.Distinct.{mostKeys, distinctTo}
-use Rattle.distinct.proofs.Kept.{keptTo, kept-zero, kept-more, kept-distinct}
+use Rattle.refusals.specs.Limits.{mostRecords}
+use Rattle.distinct.specs.Distinct.{distinctTo, keptTo, kept-zero, kept-more}
 use Rattle.distinct.proofs.by_order.Statement.{statement}
 use Rattle.distinct.proofs.by_order.Tie as tie
 
@@ -17,12 +17,25 @@ abbrev Inv-loop : tie.InvT-loop
 Inv-loop keys kept₀ room m₀ i₀ i-end kept m i =
     (i ≤ length keys)
     × (m ≤ i)
-    × (length kept ≡ mostKeys)
-    × (length room ≡ mostKeys)
+    × (length kept ≡ mostRecords)
+    × (length room ≡ mostRecords)
     × (take m kept ≡ keptTo i (λ j. getD keys j 0))
 
 abbrev μ-loop : tie.MeasureT-loop
 μ-loop keys kept₀ room m₀ i₀ i-end kept m i = length keys - i
+
+-- ---- stations: the turn in which a key was read, the loop's end, and the keys there
+
+abbrev turn : tie.After-shared-slice-known2 Inv-loop μ-loop → tie.At-loop Inv-loop μ-loop
+turn c = c .before .before
+
+abbrev ended : tie.After-all-different Inv-loop μ-loop → tie.At-loop Inv-loop μ-loop
+ended c = c .before .before .before .before
+
+abbrev keyAt : tie.At-loop Inv-loop μ-loop → ℕ → ℕ
+keyAt c j = getD (c .before .before .args .keys .now) j 0
+
+-- ---- needs
 
 loop-holds : tie.Need-loop-holds Inv-loop μ-loop
 unfolding keptTo
@@ -35,7 +48,7 @@ shared-slice-read-key : tie.Need-shared-slice-read-key Inv-loop μ-loop
 shared-slice-read-key c = search needs
 
 cast-kept : tie.Need-cast-kept Inv-loop μ-loop
-cast-kept c = omega (arith, c .before .shared-slice-known2 .given (c .before .before .before .loop .i))
+cast-kept c = omega (arith, c .before .shared-slice-known2 .given (turn (c .before) .loop .i))
 
 mul-kept : tie.Need-mul-kept Inv-loop μ-loop
 mul-kept c = search needs
@@ -54,9 +67,9 @@ loop-less c = search needs
 
 loop-again : tie.Need-loop-again Inv-loop μ-loop
 loop-again c =
-    let l = c .before .before .before .loop in
-    let key : ℕ → ℕ = λ j. getD (c .before .before .before .before .before .args .keys .now) j 0 in
-    ⊎-elim
+    let l = turn (c .before) .loop in
+    let key : ℕ → ℕ = keyAt (turn (c .before)) in
+    either (c .if1 .came)
     (λ w. (
       omega arith,
       omega arith,
@@ -71,7 +84,6 @@ loop-again c =
       refl,
       rw (w .1, w .2) (l .inv .4 ∙ sym (kept-zero (l .i) key (w .0 .left))),
     ))
-    (c .if1 .came)
 
 array-borrow-prefix-kept : tie.Need-array-borrow-prefix-kept Inv-loop μ-loop
 array-borrow-prefix-kept c = search needs
@@ -89,14 +101,14 @@ all-different-requires c κs =
     omega arith
 
 returns : tie.Need-returns Inv-loop μ-loop
+unfolding distinctTo
 returns c =
-    let s = c .before .before .before .before .before .before in
-    let key : ℕ → ℕ = λ j. getD (s .before .before .args .keys .now) j 0 in
+    let told = c .before .before in
+    let s = ended told in
     let e : s .loop .i ≡ length (s .before .before .args .keys .now) = omega arith in
-    c .before .before .all-different .ensures .0
+    told .all-different .ensures .0
     ∙ ap distinct (s .loop .inv .4)
-    ∙ kept-distinct (s .loop .i) key
-    ∙ ap (λ (n : ℕ). distinctTo n key) e
+    ∙ ap (λ (n : ℕ). distinct (keptTo n (keyAt s))) e
 
 pub by-order-spec : {M : Type 1} → statement M
 by-order-spec =

@@ -1,5 +1,7 @@
+-- `number::put_u16` meets its contract: each byte is stored in its place, and the bytes stored one after another are
+-- the number written in 2 bytes. A store leaves the length, so the next one is inside too. Assumes nothing.
 use lib.ListN.{length-set}
-use Rattle.number.specs.Number.{withNumber}
+use Rattle.number.specs.Number.{open-write}
 use native.Mathlib.Omega.{arith}
 use borrow.Author.Needs.{needs}
 use Rattle.number.proofs.put_u16.Statement.{statement}
@@ -24,8 +26,7 @@ same-length : tie.Need-same-length
 same-length c = search needs
 
 returns : tie.Need-returns
-unfolding withNumber
-returns c = search needs
+returns c = open-write 2 (c .args .t .now) (c .args .at) (c .args .v)
 
 pub put-u16-spec : {M : Type 1} → statement M
 put-u16-spec =

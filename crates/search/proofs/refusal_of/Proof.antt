@@ -10,7 +10,7 @@ use borrow.Author.Tests.{not-true, not-false}
 use Rattle.table.specs.Record.{recordOf}
 use Rattle.table.specs.Table.{recordsIn}
 use Rattle.refusals.specs.Refusal.{firstOf, done}
-use Rattle.survey.specs.Pass.{Answers}
+use Rattle.survey.specs.Answers.{Answers}
 use Rattle.admission.specs.Admission.{Admits, admissionTests}
 use Rattle.admission.specs.Query.{knownQuery, otherKind}
 use Rattle.search.specs.Tests.{

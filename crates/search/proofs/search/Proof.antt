@@ -2,7 +2,6 @@
 -- nothing.
 use Prim.Native.Nat.{ℕ}
 use mathlib.Core.Path.{_≡_, sym, subst, _∙_}
-use mathlib.Core.List.{List}
 use native.Mathlib.Omega.{arith}
 use borrow.Author.Needs.{needs}
 use lib.ListN.{length}
@@ -10,7 +9,7 @@ use Rattle.distance.specs.Signature.{Fit, readings-fit}
 use Rattle.table.specs.Record.{recordOf}
 use Rattle.table.specs.Table.{recordsIn}
 use Rattle.refusals.specs.Refusal.{done}
-use Rattle.survey.specs.Pass.{Answers}
+use Rattle.survey.specs.Answers.{Answers}
 use Rattle.search.specs.Search.{refusalOf}
 use Rattle.search.specs.Tests.{Accepted, accepted, refusal-admits}
 use Rattle.search.specs.Laws.{accepted-is, refuses}

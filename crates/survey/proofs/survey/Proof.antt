@@ -1,7 +1,7 @@
 -- `survey::survey` meets its contract. The loop's invariant: the records from k on are seen. Assumes nothing.
 use mathlib.Core.Path.{_≡_, ap}
 use Rattle.table.specs.Record.{Record, recordOf}
-use Rattle.table.specs.Same.{past-free}
+use Rattle.table.specs.Same.{past-are}
 use Rattle.survey.specs.Pass.{Passed, pass-start, pass-down, pass-end}
 use native.Mathlib.Omega.{arith}
 use borrow.Author.Needs.{needs}
@@ -17,7 +17,7 @@ abbrev μ-loop : tie.MeasureT-loop
 loop-holds : tie.Need-loop-holds Inv-loop μ-loop
 loop-holds c =
     let a = c .before .args in
-    let past = past-free (a .t .now) (a .n) (omega arith) in
+    let past = past-are (a .t .now) (a .n) (a .n) (c .before .pre) (omega arith) in
     pass-start (a .n) (recordOf (a .t .now)) (ap (λ (r : Record). r .kind) past)
 
 sub-k : tie.Need-sub-k Inv-loop μ-loop

@@ -1,5 +1,5 @@
--- What an insertion leaves: which slots are used, whose children they are, and what stands below what. The new slot is a
--- child of one record alone, nothing stands below it, and an old record stands below what it stood below.
+-- What an insertion leaves: which slots are used, whose children they are, and what stands below what. The new slot
+-- is a child of one record alone, nothing stands below it, and an old record stands below what it stood below.
 -- Assumes nothing.
 use Prim.Native.Nat.{ℕ, suc, _≤_}
 use mathlib.Core.Path.{_≡_}
@@ -8,7 +8,8 @@ use mathlib.Core.List.{List, Memᴰ·append-left}
 use mathlib.Core.List.{List·Memᴰ·not-nil, List·Memᴰ·append-cases, List·Memᴰ·eq-of-singleton}
 use native.Mathlib.Omega.{arith}
 use native.Mathlib.Decide.{ℕ-discrete}
-use Rattle.tree.specs.Slots.{_∈_, either, ∈-decide}
+use Rattle.tree.specs.Slots.{_∈_, ∈-decide}
+use Rattle.places.specs.Cases.{either}
 use Rattle.tree.specs.View.{View, Used, Below, here, down, Formed}
 use Rattle.tree.specs.Insert.{Fresh, Inserted}
 

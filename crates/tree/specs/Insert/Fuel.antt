@@ -1,5 +1,5 @@
--- Fuel for the used records is enough for an insertion's walk too: more changes nothing, so the walk obeys the paper's text
--- with no word of fuel (`walk-is`). Assumes nothing.
+-- Fuel for the used records is enough for an insertion's walk too: more changes nothing, so the walk obeys the
+-- paper's text with no word of fuel (`walk-is`). Assumes nothing.
 use Prim.Native.Nat.{ℕ, suc, zero, _≤_}
 use mathlib.Core.Bool.{not}
 use mathlib.Core.Path.{_≡_, refl, sym, ap, _∙_}

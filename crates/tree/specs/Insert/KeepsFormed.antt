@@ -1,5 +1,5 @@
--- An insertion keeps a well-formed table well formed, for every arity and fuel: all that it takes is that the new record
--- hangs on a used one, in a free slot, with a new card and a later timestamp than all. Assumes nothing.
+-- An insertion keeps a well-formed table well formed, for every arity and fuel: all that it takes is that the new
+-- record hangs on a used one, in a free slot, with a new card and a later timestamp than all. Assumes nothing.
 use Prim.Native.Nat.{ℕ, _<_}
 use mathlib.Core.Path.{_≡_, refl, sym, ap, _∙_}
 use mathlib.Core.Logic.{_⊎_, inl, inr}
@@ -7,7 +7,8 @@ use mathlib.Core.List.{List, [], _∷_, _++_, List·Memᴰ·head as first, List�
 use mathlib.Core.List.{List·Memᴰ·not-nil, List·Memᴰ·append-cases, List·Memᴰ·eq-of-singleton}
 use native.Mathlib.Omega.{arith}
 use native.Mathlib.Decide.{ℕ-discrete}
-use Rattle.tree.specs.Slots.{_∈_, either}
+use Rattle.tree.specs.Slots.{_∈_}
+use Rattle.places.specs.Cases.{either}
 use Rattle.tree.specs.View.{View, Used, Rising, Formed}
 use Rattle.tree.specs.View.Shape.{rising-same}
 use Rattle.tree.specs.Insert.{Fresh, Inserted, path, attach}
@@ -57,7 +58,8 @@ module _ {Sig : Type 0} {d : Sig → Sig → ℕ} {v w : View Sig} {n root c s t
   hung-formed : Formed w n root
   hung-formed = record {
     within = λ a u. either (inserted-used-cases done a u) (λ e. rw e (new .slot-within)) (λ z. wf .within a (z .1));
-    cards = still-apart (v .card) (w .card) (done .card-old) (λ a u e. new .card-new a u (e ∙ done .card-new)) (wf .cards);
+    cards =
+        still-apart (v .card) (w .card) (done .card-old) (λ a u e. new .card-new a u (e ∙ done .card-new)) (wf .cards);
     timestamps = still-apart (v .timestamp) (w .timestamp) (done .timestamp-old)
         (λ a u e. omega (arith, new .late a u, done .timestamp-new)) (wf .timestamps);
     root-used = inserted-old-used new done root (wf .root-used);

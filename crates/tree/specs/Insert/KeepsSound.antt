@@ -1,12 +1,13 @@
--- An insertion keeps a sound table sound, for every arity and fuel. The new record stands below the records visited alone,
--- whose radii now cover it, and each of these was the nearest of its siblings. Assumes nothing.
+-- An insertion keeps a sound table sound, for every arity and fuel. The new record stands below the records visited
+-- alone, whose radii now cover it, and each of these was the nearest of its siblings. Assumes nothing.
 use Prim.Native.Nat.{ℕ, suc, _≤_, _<_}
 use mathlib.Core.Path.{_≡_, sym, _∙_}
 use mathlib.Core.List.{Memᴰ·cast}
 use native.Mathlib.Omega.{arith}
 use native.Mathlib.Decide.{ℕ-discrete}
 use Rattle.distance.specs.Laws.{Distance}
-use Rattle.tree.specs.Slots.{_∈_, either}
+use Rattle.tree.specs.Slots.{_∈_}
+use Rattle.places.specs.Cases.{either}
 use Rattle.tree.specs.View.{View, Used, away, Below, here, down, Formed, Sound}
 use Rattle.tree.specs.View.Shape.{below-used}
 use Rattle.tree.specs.Insert.{Fresh, Inserted, path, attach}
@@ -39,7 +40,8 @@ module _ {Sig : Type 0} {d : Sig → Sig → ℕ} {v w : View Sig} {n root c s t
   was-child a b nb i = either (inserted-child done a b i) (λ z. absurd (nb (z .0))) (λ z. z .1)
 
   module _ {Fit : Sig → Type 0} (laws : Distance Fit d) (ok : Sound d v) where
-    covers : (k a y : ℕ) → Used w a → Below (w .children) y (suc k) a → d (w .signature a) (w .signature y) ≤ w .radius a
+    covers :
+        (k a y : ℕ) → Used w a → Below (w .children) y (suc k) a → d (w .signature a) (w .signature y) ≤ w .radius a
     covers k a y u q =
         let na = inserted-upper done q in
         elim (ℕ-discrete y s) [

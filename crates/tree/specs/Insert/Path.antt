@@ -1,6 +1,6 @@
--- The walk of an insertion: the child taken is a nearest one, and of these the oldest; each record visited is the root or
--- the child taken of another one visited; no record is visited twice, so the distance count is at most the used records.
--- Assumes nothing.
+-- The walk of an insertion: the child taken is a nearest one, and of these the oldest; each record visited is the
+-- root or the child taken of another one visited; no record is visited twice, so the distance count is at most the
+-- used records. Assumes nothing.
 use Prim.Native.Nat.{ℕ, suc, zero, _≤_, _<_}
 use mathlib.Core.Bool.{Bool, true, false, cond}
 use mathlib.Core.Path.{_≡_, refl}
@@ -11,7 +11,8 @@ use mathlib.Core.List.{Sublistᴰ·slnil, Sublistᴰ·cons-cons, Sublistᴰ·tra
 use native.Mathlib.Omega.{arith}
 use lib.Dec.{ltb}
 use borrow.Author.Tests.{ltb-true, ltb-false}
-use Rattle.tree.specs.Slots.{_∈_, _⊑_, either, keep-from, keep-to, keep-part, flatMap-part, Distinct, distinct-part}
+use Rattle.tree.specs.Slots.{_∈_, _⊑_, keep-from, keep-to, keep-part, flatMap-part, Distinct, distinct-part}
+use Rattle.places.specs.Cases.{either}
 use Rattle.tree.specs.View.{View, Used, away, Rising, Formed, usedCount, distanceCount}
 use Rattle.tree.specs.View.Count.{distanceCount-at-most}
 use Rattle.tree.specs.View.Under.{under, under-distinct}

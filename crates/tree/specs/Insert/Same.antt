@@ -1,5 +1,5 @@
--- The walk of an insertion looks only at what it can reach: two views that agree on a set of slots, closed under children,
--- have the same walk from each of them (`path-same`), at the same count (`count-same`). Assumes nothing.
+-- The walk of an insertion looks only at what it can reach: two views that agree on a set of slots, closed under
+-- children, have the same walk from each of them (`path-same`), at the same count (`count-same`). Assumes nothing.
 use Prim.Native.Nat.{ℕ, suc, zero, _+_}
 use mathlib.Core.Bool.{cond, not}
 use mathlib.Core.Path.{_≡_, refl, ap, ap₂, _∙_}
@@ -64,14 +64,16 @@ module _ {Sig : Type 0} (d : Sig → Sig → ℕ) (v w : View Sig) (x : Sig) (ar
     onward-in f a [] h rest y i = absurd (List·Memᴰ·not-nil i)
     onward-in f a (c ∷ l) h rest y i =
         let near = nearest d v x c l in
-        rest near y (h near (nearest-∈ d v x c l)) (keep-from (not (hangs d v x arity a near)) y (path d v x arity f near) i .1)
+        rest near y (h near (nearest-∈ d v x c l))
+        (keep-from (not (hangs d v x arity a near)) y (path d v x arity f near) i .1)
 
     -- the walk stays in the set
     pub path-in : (f a y : ℕ) → In a → y ∈ path d v x arity f a → In y
     unfolding path
     path-in zero a y i j = absurd (List·Memᴰ·not-nil j)
     path-in (suc f) a y i (first e) = rw e i
-    path-in (suc f) a y i (later j) = onward-in f a (v .children a) (λ b k. closed a b i k) (λ c z k m. path-in f c z k m) y j
+    path-in (suc f) a y i (later j) =
+        onward-in f a (v .children a) (λ b k. closed a b i k) (λ c z k m. path-in f c z k m) y j
 
     counts-same : (p : List ℕ) → ((y : ℕ) → y ∈ p → In y) → childCounts w p ≡ childCounts v p
     unfolding childCounts

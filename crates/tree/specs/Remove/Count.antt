@@ -5,14 +5,16 @@ use mathlib.Core.Path.{_≡_}
 use mathlib.Core.List.{List, _++_, Memᴰ·append-left, Memᴰ·append-right, List·Memᴰ·append-cases}
 use native.Mathlib.Omega.{arith}
 use lib.ListN.{length, length-append}
-use Rattle.tree.specs.Slots.{_∈_, either, ∈-decide, Distinct, distinct-append, distinct-length}
+use Rattle.tree.specs.Slots.{_∈_, ∈-decide, Distinct, distinct-append, distinct-length}
+use Rattle.places.specs.Cases.{either}
 use Rattle.tree.specs.View.{View, Used, Formed, usedCount}
 use Rattle.tree.specs.View.Count.{usedSlots, usedSlots-length, usedSlots-from, usedSlots-to, usedSlots-distinct}
 use Rattle.tree.specs.View.Count.{used-at-most}
 use Rattle.tree.specs.View.Under.{under, under-iff, under-used, under-distinct}
 use Rattle.tree.specs.Remove.{Removed}
 
-module _ {Sig : Type 0} {v w : View Sig} {n root b : ℕ} (wf : Formed v n root) (ub : Used v b) (gone : Removed v w b) where
+module _ {Sig : Type 0} {v w : View Sig} {n root b : ℕ}
+    (wf : Formed v n root) (ub : Used v b) (gone : Removed v w b) where
   abbrev low : List ℕ
   low = under (v .children) (usedCount v n) b
 

@@ -10,7 +10,8 @@ pub removed-sound : {Sig : Type 0} {d : Sig → Sig → ℕ} {v w : View Sig} {n
 removed-sound {d} {v} {w} wf gone ok = record {
   cover = λ k a x u p.
       let z = removed-below wf gone u p in
-      rw (gone .signature a u, gone .signature x (z .1), gone .radius a u) (ok .cover k a x (gone .was-used a u) (z .0));
+      rw (gone .signature a u, gone .signature x (z .1), gone .radius a u)
+      (ok .cover k a x (gone .was-used a u) (z .0));
   near = λ k a b c x u ib ic p h.
       let yb = removed-child wf gone a b ib in
       let yc = removed-child wf gone a c ic in

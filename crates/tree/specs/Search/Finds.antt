@@ -1,7 +1,7 @@
--- On every well-formed and sound table a search lists exactly the cards of the used records within the radius, each once.
--- The key: x within r of the query, below child b, with sibling c older than x, is no farther from b than from c; so by the
--- triangle b is at most 2r farther from the query than c, and neither step 3's test nor its bound cuts x off. Of the
--- distance only the laws are used. Assumes nothing.
+-- On every well-formed and sound table a search lists exactly the cards of the used records within the radius, each
+-- once. The key: x within r of the query, below child b, with sibling c older than x, is no farther from b than from
+-- c; so by the triangle b is at most 2r farther from the query than c, and neither step 3's test nor its bound cuts x
+-- off. Of the distance only the laws are used. Assumes nothing.
 use Prim.Native.Nat.{ℕ, suc, zero, _+_, _*_, _≤_, _<_}
 use mathlib.Core.Bool.{Bool, true, false, and-true}
 use mathlib.Core.Path.{_≡_, refl, sym, ap, _∙_}
@@ -15,11 +15,12 @@ use lib.Dec.{leb, ltb}
 use borrow.Author.Tests.{ltb-true, leb-true, lt-ltb, le-leb}
 use Rattle.distance.specs.Laws.{Distance}
 use Rattle.places.specs.Choice.{and-both}
-use Rattle.tree.specs.Slots.{_∈_, either, Distinct, keep, keep-from, keep-to}
+use Rattle.tree.specs.Slots.{_∈_, Distinct, keep, keep-from, keep-to}
+use Rattle.places.specs.Cases.{either}
 use Rattle.tree.specs.View.{View, Used, Late, away, Below, here, down, Rising, Formed, Sound, usedCount}
 use Rattle.tree.specs.View.Shape.{below-younger, below-root, siblings-timestamp}
 use Rattle.tree.specs.View.Under.{used-shallow}
-use Rattle.tree.specs.Search.{least, enters, visited, bound, turn, visit, listed}
+use Rattle.tree.specs.Search.{least, enters, isVisited, bound, turn, visit, listed}
 use Rattle.tree.specs.Search.Once.{visit-distinct, visit-used}
 
 least-above : (b : Bool) (x m n : ℕ) → (b ≡ true → x < m) → x < n → x < least b m n
@@ -46,12 +47,12 @@ module _ {Sig : Type 0} (d : Sig → Sig → ℕ) (v : View Sig) (q : Sig) (r : 
   bound-above t b x (c ∷ cs) h f = least-above _ x (v .timestamp c) _
       (λ e. f c (first refl) (omega (arith, ltb-true))) (bound-above t b x cs h (λ c′ i. f c′ (later i)))
 
-  visited-all : (os : List ℕ) (b : ℕ) → ((o : ℕ) → o ∈ os → away d v q b ≤ away d v q o + 2 * r)
-      → visited d v q r os b ≡ true
-  unfolding visited
-  visited-all [] b f = refl
-  visited-all (o ∷ os) b f =
-      rw (visited-all os b (λ o′ i. f o′ (later i)), and-true) (omega (arith, le-leb, f o (first refl)))
+  isVisited-all : (os : List ℕ) (b : ℕ) → ((o : ℕ) → o ∈ os → away d v q b ≤ away d v q o + 2 * r)
+      → isVisited d v q r os b ≡ true
+  unfolding isVisited
+  isVisited-all [] b f = refl
+  isVisited-all (o ∷ os) b f =
+      rw (isVisited-all os b (λ o′ i. f o′ (later i)), and-true) (omega (arith, le-leb, f o (first refl)))
 
   turn-reaches : (go : ℕ → ℕ → List ℕ) (t x b : ℕ) (os bs : List ℕ) → Rising (v .timestamp) bs → b ∈ bs
       → ((o : ℕ) → o ∈ os → away d v q b ≤ away d v q o + 2 * r)
@@ -60,7 +61,7 @@ module _ {Sig : Type 0} (d : Sig → Sig → ℕ) (v : View Sig) (q : Sig) (r : 
       → ((t′ : ℕ) → v .timestamp x < t′ → x ∈ go b t′) → x ∈ turn d v q r go t os bs
   unfolding turn
   turn-reaches go t x b os (c ∷ bs) ris (first e) g f xt bx h = rw (← e) (Memᴰ·append-left _
-      (keep-to _ x _ (visited-all _ b g) (h _ (bound-above t b (v .timestamp x) bs xt (λ c′ i. f c′ (later i))))))
+      (keep-to _ x _ (isVisited-all _ b g) (h _ (bound-above t b (v .timestamp x) bs xt (λ c′ i. f c′ (later i))))))
   turn-reaches go t x b os (c ∷ bs) ris (later i) g f xt bx h = Memᴰ·append-right (keep _ _)
       (turn-reaches go t x b (c ∷ os) bs (ris .1) i older (λ c′ j. f c′ (later j)) xt bx h)
     where

@@ -1,5 +1,6 @@
--- Fuel for the used records is fuel enough: more changes nothing, so the walk obeys the paper's text with no word of fuel
--- (`walk-is`). And all bounds above every timestamp in use are one: no bound on time (`visit-unbounded`). Assumes nothing.
+-- Fuel for the used records is fuel enough: more changes nothing, so the walk obeys the paper's text with no word of
+-- fuel (`walk-is`). And all bounds above every timestamp in use are one: no bound on time (`visit-unbounded`).
+-- Assumes nothing.
 use Prim.Native.Nat.{ℕ, suc, zero, _+_, _*_, _≤_, min}
 use mathlib.Core.Bool.{Bool, true, false, _&&_}
 use mathlib.Core.Path.{_≡_, refl, sym, ap, _∙_}

@@ -1,5 +1,5 @@
--- On every well-formed table, sound or not: no slot is entered twice, no slot is compared twice, and each slot compared is
--- used; so the distance count is at most the number of used records. Assumes nothing.
+-- On every well-formed table, sound or not: no slot is entered twice, no slot is compared twice, and each slot
+-- compared is used; so the distance count is at most the number of used records. Assumes nothing.
 use Prim.Native.Nat.{ℕ, suc, zero, _≤_}
 use mathlib.Core.Path.{refl}
 use mathlib.Core.List.{List, [], _∷_, flatMap, Sublistᴰ·slnil, Sublistᴰ·cons-cons, Sublistᴰ·append}

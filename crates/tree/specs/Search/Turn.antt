@@ -1,6 +1,6 @@
--- The children's turn as a loop takes it: the smallest distance so far in one number, which starts from a value `top` that
--- no distance exceeds, and the bound so far in another. It is the paper's turn (`visitFrom-is`): the start value reads as
--- "the first child always", since every distance is at most `top`. Assumes nothing.
+-- Loop: The children's turn as a loop takes it: the smallest distance so far in one number, which starts from a value
+-- `top` that no distance exceeds, and the bound so far in another. It is the paper's turn (`visitFrom-is`): the start
+-- value reads as "the first child always", since every distance is at most `top`. Assumes nothing.
 use Prim.Native.Nat.{ℕ, suc, zero, _+_, _*_, _≤_, min}
 use mathlib.Core.Bool.{Bool, true, false, _&&_, cond}
 use mathlib.Core.Path.{_≡_, refl, ap, _∙_}
@@ -11,7 +11,7 @@ use borrow.Author.Tests.{le-leb, lt-leb, leb-true, leb-false, ltb-true, ltb-fals
 use Rattle.distance.specs.Laws.{Distance, farthest}
 use Rattle.tree.specs.Slots.{_∈_, keep}
 use Rattle.tree.specs.View.{View, away}
-use Rattle.tree.specs.Search.{least, enters, visited, bound, turn, visit}
+use Rattle.tree.specs.Search.{least, enters, isVisited, bound, turn, visit}
 use Rattle.tree.specs.Search.Fuel.{turn-same}
 
 -- ---- the loop's form
@@ -82,20 +82,20 @@ module _ {Sig : Type 0} (d : Sig → Sig → ℕ) (v : View Sig) (q : Sig) (r : 
 
   module _ (top : ℕ) where
     -- m stands for the older siblings os, at every slot that is no farther than top
-    abbrev pub Stands : ℕ → List ℕ → Type 0
-    Stands m os = (b : ℕ) → away d v q b ≤ top → leb (away d v q b) (m + 2 * r) ≡ visited d v q r os b
+    abbrev pub StandsFor : ℕ → List ℕ → Type 0
+    StandsFor m os = (b : ℕ) → away d v q b ≤ top → leb (away d v q b) (m + 2 * r) ≡ isVisited d v q r os b
 
-    pub stands-first : Stands top []
-    unfolding visited
+    pub stands-first : StandsFor top []
+    unfolding isVisited
     stands-first b h = omega (arith, le-leb)
 
-    stands-next : (m o : ℕ) (os : List ℕ) → Stands m os → Stands (min m (away d v q o)) (o ∷ os)
-    unfolding visited
+    stands-next : (m o : ℕ) (os : List ℕ) → StandsFor m os → StandsFor (min m (away d v q o)) (o ∷ os)
+    unfolding isVisited
     stands-next m o os s b h =
         leb-min (away d v q b) m (away d v q o) (2 * r) ∙ ap (leb (away d v q b) (away d v q o + 2 * r) &&_) (s b h)
 
     pub turnFrom-is : (go : ℕ → ℕ → List ℕ) (t m : ℕ) (os bs : List ℕ) → ((b : ℕ) → b ∈ bs → away d v q b ≤ top)
-        → Stands m os → turnFrom d v q r go t m bs ≡ turn d v q r go t os bs
+        → StandsFor m os → turnFrom d v q r go t m bs ≡ turn d v q r go t os bs
     unfolding turnFrom turn
     turnFrom-is go t m os [] near s = refl
     turnFrom-is go t m os (b ∷ bs) near s =

@@ -11,7 +11,7 @@ use Rattle.places.specs.Choice.{and-left, and-right, and-both}
 use Rattle.tree.specs.Slots.{_⊑_, keep-more}
 use Rattle.tree.specs.View.{View, away, distanceCount}
 use Rattle.tree.specs.View.Count.{distanceCount-part}
-use Rattle.tree.specs.Search.{least, enters, visited, bound, turn, visit}
+use Rattle.tree.specs.Search.{least, enters, isVisited, bound, turn, visit}
 
 -- fewer tests that hold, and a larger second number, give no smaller a least
 least-wider : (a b : Bool) (x m n : ℕ) → (b ≡ true → a ≡ true) → m ≤ n → least a x m ≤ least b x n
@@ -30,13 +30,13 @@ module _ {Sig : Type 0} (d : Sig → Sig → ℕ) (v : View Sig) (q : Sig) {r s 
       and-both (ltb (v .timestamp a) u) (leb (away d v q a) (v .radius a + s))
       (omega (arith, lt-ltb)) (omega (arith, le-leb))
 
-  visited-wider : (os : List ℕ) (b : ℕ) → visited d v q r os b ≡ true → visited d v q s os b ≡ true
-  unfolding visited
-  visited-wider [] b e = refl
-  visited-wider (o ∷ os) b e =
+  isVisited-wider : (os : List ℕ) (b : ℕ) → isVisited d v q r os b ≡ true → isVisited d v q s os b ≡ true
+  unfolding isVisited
+  isVisited-wider [] b e = refl
+  isVisited-wider (o ∷ os) b e =
       let g = leb-true (away d v q b) (away d v q o + 2 * r) (and-left _ _ e) in
-      and-both (leb (away d v q b) (away d v q o + 2 * s)) (visited d v q s os b)
-      (omega (arith, le-leb)) (visited-wider os b (and-right (leb (away d v q b) (away d v q o + 2 * r)) _ e))
+      and-both (leb (away d v q b) (away d v q o + 2 * s)) (isVisited d v q s os b)
+      (omega (arith, le-leb)) (isVisited-wider os b (and-right (leb (away d v q b) (away d v q o + 2 * r)) _ e))
 
   bound-wider : (t u b : ℕ) (cs : List ℕ) → t ≤ u → bound d v q r t b cs ≤ bound d v q s u b cs
   unfolding bound
@@ -49,7 +49,7 @@ module _ {Sig : Type 0} (d : Sig → Sig → ℕ) (v : View Sig) (q : Sig) {r s 
   unfolding turn
   turn-wider go go′ t u os [] h f = Sublistᴰ·slnil
   turn-wider go go′ t u os (b ∷ bs) h f = Sublistᴰ·append
-      (keep-more _ _ (visited-wider _ b) (f b _ _ (bound-wider t u b bs h))) (turn-wider go go′ t u (b ∷ os) bs h f)
+      (keep-more _ _ (isVisited-wider _ b) (f b _ _ (bound-wider t u b bs h))) (turn-wider go go′ t u (b ∷ os) bs h f)
 
   pub visit-wider : (f a t u : ℕ) → t ≤ u → visit d v q r f a t ⊑ visit d v q s f a u
   unfolding visit

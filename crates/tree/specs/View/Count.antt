@@ -1,5 +1,5 @@
--- The used slots as a list: `usedCount` is its length, so no more slots without repeats can all be used. Hence a walk that
--- enters no slot twice has a distance count of at most the used records. Assumes nothing.
+-- The used slots as a list: `usedCount` is its length, so no more slots without repeats can all be used. Hence a walk
+-- that enters no slot twice has a distance count of at most the used records. Assumes nothing.
 use Prim.Native.Nat.{ℕ, suc, zero, _+_, _≤_, _<_, min}
 use mathlib.Core.Bool.{Bool, true, false}
 use mathlib.Core.Path.{_≡_, refl, sym, _∙_}
@@ -11,7 +11,8 @@ use native.Mathlib.Decide.{ℕ-discrete}
 use lib.Dec.{ltb}
 use lib.ListN.{length, length-append}
 use borrow.Author.Tests.{ltb-true, ltb-false, lt-ltb}
-use Rattle.tree.specs.Slots.{_∈_, _⊑_, either, keep, keep-from, keep-to}
+use Rattle.tree.specs.Slots.{_∈_, _⊑_, keep, keep-from, keep-to}
+use Rattle.places.specs.Cases.{either}
 use Rattle.tree.specs.Slots.{Distinct, distinct-length, distinct-flatMap, flatMap-from}
 use Rattle.tree.specs.View.{View, Used, usedCount, Formed, compared, childCounts, distanceCount}
 use Rattle.tree.specs.View.Shape.{children-distinct}

@@ -19,7 +19,8 @@ below-child (down j p) i = down j (below-child p i)
 pub shallow-some : {children : ℕ → List ℕ} {a : ℕ} → Shallow children zero a → ⊥
 shallow-some {a} h = omega (arith, h zero a (here refl))
 
-pub shallow-child : {children : ℕ → List ℕ} {f a b : ℕ} → Shallow children (suc f) a → b ∈ children a → Shallow children f b
+pub shallow-child :
+    {children : ℕ → List ℕ} {f a b : ℕ} → Shallow children (suc f) a → b ∈ children a → Shallow children f b
 shallow-child h i k x p = omega (arith, h (suc k) x (down i p))
 
 -- "A free table is sound"

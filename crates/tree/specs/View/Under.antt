@@ -1,5 +1,5 @@
--- All that stands at or below a slot, as a list in walk order: in a well-formed table it is complete, has no repeats, and
--- for the root it is all used slots. With levels enough, more change nothing. Assumes nothing.
+-- All that stands at or below a slot, as a list in walk order: in a well-formed table it is complete, has no repeats,
+-- and for the root it is all used slots. With levels enough, more change nothing. Assumes nothing.
 use Prim.Native.Nat.{ℕ, suc, zero, _≤_, _<_}
 use mathlib.Core.Path.{_≡_, refl, sym, ap, _∙_}
 use mathlib.Core.Logic.{_↔_}
@@ -90,7 +90,8 @@ module _ {Sig : Type 0} {v : View Sig} {n root : ℕ} (wf : Formed v n root) whe
         (used-shallow f a u h) (used-shallow (usedCount v n) a u (omega arith))
 
     -- the slot, then what stands at or below each child in turn
-    pub under-is : under (v .children) (usedCount v n) a ≡ a ∷ flatMap (under (v .children) (usedCount v n)) (v .children a)
+    pub under-is :
+        under (v .children) (usedCount v n) a ≡ a ∷ flatMap (under (v .children) (usedCount v n)) (v .children a)
     under-is = sym (under-fuel (suc (usedCount v n)) (omega arith)) ∙ unfold under in refl
 
     pub under-iff : (x : ℕ) → x ∈ under (v .children) (usedCount v n) a ↔ ((k : ℕ) × Below (v .children) x k a)

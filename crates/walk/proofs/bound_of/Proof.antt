@@ -6,14 +6,14 @@ use mathlib.Core.List.{List}
 use lib.Dec.{ltb}
 use lib.ListN.{getD, length}
 use borrow.Author.Needs.{needs}
-use borrow.Author.Tests.{lt-ltb, le-ltb}
 use native.Mathlib.Omega.{arith}
+use Rattle.places.specs.Cases.{either}
 use Rattle.table.specs.Record.{Record, recordOf, slot}
 use Rattle.table.specs.Stands.{Stands}
 use Rattle.tree.specs.Search.{least}
 use Rattle.walk.specs.Step.{asked}
 use Rattle.walk.specs.Loop.Children.{Compared, boundOn, childBound}
-use Rattle.walk.proofs.Children.{cases, count-slots, bound-step, bound-end, least-taken, least-left}
+use Rattle.walk.proofs.Children.{count-slots, bound-step, bound-end, least-taken, least-left}
 use Rattle.walk.proofs.bound_of.Statement.{statement}
 use Rattle.walk.proofs.bound_of.Tie as tie
 
@@ -111,7 +111,7 @@ turned :
 turned c x y ex ey =
     let l = c .before .before in
     let a = start l .args in
-    cases (c .if1 .came)
+    either (c .if1 .came)
     (λ w.
     let time : w .3 .result ≡ records l (sibling l) .timestamp =
     w .3 .ensures .0 ∙ w .2 .ensures ∙ ap (λ (z : ℕ). records l z .timestamp) (w .1 .ensures) in

@@ -1,4 +1,4 @@
-//! How long judging takes, as a ratio to a plain scan of the same 1,024 records in the same run: `bench_judge
+//! How long judging takes, as a ratio to a plain scan of 1,024 records that is timed in turn with it: `bench_judge
 //! [repetitions] [--self]`. With `--self` the model's judge is timed, which tells only that the bench works.
 
 use model::assemble::{self, Clock, Shape};
@@ -13,7 +13,7 @@ use probe::answers::Answers;
 use probe::Probe;
 use std::hint::black_box;
 use std::process::ExitCode;
-use std::time::Instant;
+use timing::{medians, reading};
 
 const DEFAULT_REPETITIONS: usize = 400;
 
@@ -95,23 +95,39 @@ fn tables(random: &mut Random) -> Vec<(String, Vec<u8>, u32)> {
     list
 }
 
+/// Eight different ordinary tables of 1,024 records.
+fn ordinary(random: &mut Random) -> Vec<Vec<u8>> {
+    let table = |_| {
+        let mut source = Source::new(random, READINGS, Flavour::Clustered);
+        full_table(random, &mut source, READINGS, MOST_RECORDS)
+    };
+    (0..8).map(table).collect()
+}
+
 // ---- timing ----
 
-/// The middle of many timings, in nanoseconds. Each timing is of as many calls as take some microseconds.
-fn median(repetitions: usize, mut work: impl FnMut()) -> f64 {
-    let begin = Instant::now();
-    work();
-    let once = begin.elapsed().as_nanos().max(1);
-    let calls = (20_000 / once).clamp(1, 1000) as u32;
-    let mut timings: Vec<f64> = (0..repetitions)
-        .map(|_| {
-            let begin = Instant::now();
-            (0..calls).for_each(|_| work());
-            begin.elapsed().as_nanos() as f64 / f64::from(calls)
-        })
-        .collect();
-    timings.sort_by(f64::total_cmp);
-    timings[timings.len() / 2]
+/// What is timed, and how often.
+struct Bench {
+    probe: Box<dyn Probe>,
+    repetitions: usize,
+}
+
+impl Bench {
+    /// Judges tables in turn, and scans others in turn with them; prints the median of a call and its ratio to a scan.
+    /// False if a table is not judged as it must be, by the model or by what is timed.
+    fn row(&self, name: &str, judged: &[&[u8]], answer: u32, scanned: &[&[u8]]) -> bool {
+        let verdict = |table: &[u8]| if judge(table) == Verdict::WellFormed { DONE } else { TABLE };
+        if judged.iter().any(|table| verdict(table) != answer || self.probe.judge(table) != answer) {
+            println!("{name}: judged wrongly");
+            return false;
+        }
+        let query: Signature = std::array::from_fn(|at| at as u8);
+        let judge = reading(judged.len(), |table, _| self.probe.judge(black_box(judged[table])));
+        let scan = reading(scanned.len(), |table, _| plain_scan(black_box(scanned[table]), black_box(&query)));
+        let [time, scan] = medians([judge, scan], self.repetitions);
+        println!("{name:<60} {time:>10.2} {scan:>10.2} {:>8.2}", time / scan);
+        true
+    }
 }
 
 #[cfg(not(feature = "stub"))]
@@ -135,32 +151,16 @@ fn main() -> ExitCode {
     };
 
     let mut random = Random::new(99);
-    let tables = tables(&mut random);
-    let scanned = &tables[0].1;
-    let query: Signature = std::array::from_fn(|_| random.byte());
-    let scan = median(repetitions, || {
-        black_box(plain_scan(black_box(scanned), black_box(&query)));
-    });
-    println!("plain scan of 1,024 records: {:.2} us, median of {repetitions}", scan / 1000.0);
-    println!("{:<60} {:>10} {:>8}", "judging", "us", "scans");
+    let (tables, ordinary) = (tables(&mut random), ordinary(&mut random));
+    println!("{:<60} {:>10} {:>10} {:>8}", format!("judging, median of {repetitions}"), "us", "scan, us", "scans");
+    let bench = Bench { probe, repetitions };
     let mut right = true;
     for (name, table, answer) in &tables {
-        let verdict = if judge(table) == Verdict::WellFormed { DONE } else { TABLE };
-        if verdict != *answer || probe.judge(table) != *answer {
-            println!("{name}: judged wrongly");
-            right = false;
-            continue;
-        }
-        let time = median(repetitions, || {
-            black_box(probe.judge(black_box(table)));
-        });
-        println!("{name:<60} {:>10.2} {:>8.2}", time / 1000.0, time / scan);
+        right &= bench.row(name, &[table], *answer, &[&tables[0].1]);
     }
-    // The scan once more, so that a machine that slowed down meanwhile is seen.
-    let again = median(repetitions, || {
-        black_box(plain_scan(black_box(scanned), black_box(&query)));
-    });
-    println!("plain scan again: {:.2} us ({:.2} of the first)", again / 1000.0, again / scan);
+    // After other work: no table is the one that was judged or scanned just before.
+    let in_turn: Vec<&[u8]> = ordinary.iter().map(Vec::as_slice).collect();
+    right &= bench.row("1,024 records, eight ordinary tables in turn", &in_turn, DONE, &in_turn);
     if right {
         ExitCode::SUCCESS
     } else {

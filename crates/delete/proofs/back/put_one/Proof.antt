@@ -2,7 +2,7 @@
 use mathlib.Core.Path.{refl, sym, _∙_}
 use Rattle.distance.specs.Kind.{apart}
 use Rattle.table.specs.Table.{recordsOf, at}
-use Rattle.view.specs.Stored.{brought}
+use Rattle.newcomer.specs.Newcomer.{brought}
 use Rattle.delete.specs.Stale.{puts-seat, puts-child}
 use borrow.Author.Needs.{needs}
 use Rattle.delete.proofs.back.put_one.Statement.{statement}

@@ -2,43 +2,61 @@
 use Prim.Native.Nat.{_≤_, _-_}
 use mathlib.Core.Path.{_≡_, refl, _∙_}
 use lib.ListN.{length}
-use Rattle.table.specs.Record.{signatureAt}
+use Rattle.table.specs.Record.{signatureAt, placeOf}
 use Rattle.table.specs.Put.{putReadings, putSignature}
 use Rattle.table.specs.Run.{readings-more}
+use Rattle.table.specs.Stands.{Stands}
 use native.Mathlib.Omega.{arith}
 use borrow.Author.Needs.{needs}
 use Rattle.table.proofs.write.put_signature.Statement.{statement}
 use Rattle.table.proofs.write.put_signature.Tie as tie
 
 abbrev Inv-loop : tie.InvT-loop
-Inv-loop t₀ s v k₀ t k = (k ≤ 16) × (length t ≡ length t₀) × (t ≡ putReadings k t₀ (signatureAt s) (v .readings))
+Inv-loop t₀ s v k₀ t k =
+    (k ≤ 16) × (length t ≡ length t₀) × (t ≡ putReadings k t₀ (signatureAt (placeOf s)) (v .readings))
 
 abbrev μ-loop : tie.MeasureT-loop
 μ-loop t₀ s v k₀ t k = 16 - k
+
+-- ---- stations: the loop, seen from the end of a turn, and the start, seen from the loop
+
+abbrev loop : tie.After-put-u16 Inv-loop μ-loop → tie.At-loop Inv-loop μ-loop
+loop c = c .before .before .before .before
+
+abbrev start : tie.At-loop Inv-loop μ-loop → tie.Start Inv-loop μ-loop
+start c = c .before .before
+
+-- ---- needs
 
 loop-holds : tie.Need-loop-holds Inv-loop μ-loop
 unfolding putReadings
 loop-holds c = search needs
 
 mul-put-u16 : tie.Need-mul-put-u16 Inv-loop μ-loop
+unfolding Stands
 mul-put-u16 c = search needs
 
 add-put-u16 : tie.Need-add-put-u16 Inv-loop μ-loop
+unfolding Stands
 add-put-u16 c = search needs
 
 mul-put-u16-2 : tie.Need-mul-put-u16-2 Inv-loop μ-loop
+unfolding Stands
 mul-put-u16-2 c = search needs
 
 add-put-u16-2 : tie.Need-add-put-u16-2 Inv-loop μ-loop
+unfolding Stands
 add-put-u16-2 c = search needs
 
 mul-put-u16-3 : tie.Need-mul-put-u16-3 Inv-loop μ-loop
+unfolding Stands
 mul-put-u16-3 c = search needs
 
 element-copy-out-put-u16 : tie.Need-element-copy-out-put-u16 Inv-loop μ-loop
 element-copy-out-put-u16 c = search needs
 
 put-u16-requires : tie.Need-put-u16-requires Inv-loop μ-loop
+unfolding Stands
 put-u16-requires c κs = search needs
 
 add-k : tie.Need-add-k Inv-loop μ-loop
@@ -49,12 +67,21 @@ loop-less c = search needs
 
 loop-again : tie.Need-loop-again Inv-loop μ-loop
 loop-again c =
-    let l = c .before .before .before .before .before .before .loop in
-    let a = c .before .before .before .before .before .before .before .before .args in (
+    let written = c .before .before in
+    let l = loop written .loop in
+    let a = start (loop written) .args in (
       omega arith,
       search needs,
-      c .before .before .put-u16 .ensures
-          ∙ readings-more (a .t .now) (signatureAt (a .s)) (a .t3 .readings) (l .k) (l .t) _ (l .inv .2) refl,
+      written .put-u16 .ensures
+          ∙ readings-more
+          (a .t .now)
+          (signatureAt (placeOf (a .s)))
+          (a .t3 .readings)
+          (l .k)
+          (l .t)
+          _
+          (l .inv .2)
+          refl,
     )
 
 same-length : tie.Need-same-length Inv-loop μ-loop

@@ -5,6 +5,7 @@ use mathlib.Core.Path.{_≡_, sym, ap, subst, _∙_}
 use mathlib.Core.List.{_++_}
 use native.Mathlib.Omega.{arith}
 use lib.ListN.{length, getD}
+use Rattle.places.specs.Cases.{either}
 use Rattle.table.specs.Stands.{Stands}
 use Rattle.walk.specs.Step.{awayIn, isCovered}
 use Rattle.walk.specs.Loop.Children.{nearestTo, childBound, enteredFrom}
@@ -153,7 +154,7 @@ module _ {τ : ℕ} where
       let b = start l in
       let end = stateOf (c .if3 .list) (c .if3 .reached) in
       let passed = Walked.turn-passed (query-at b) (now-at l) end (rest b (l .loop .k)) (rest b (l .loop .k + 1)) in
-      Children.cases (c .if3 .came)
+      either (c .if3 .came)
       (λ w.
       let near : At τ lts.Then3 = record { before = c .before; if3 = w .0 } in
       let h : At τ lts.After-child-of = record { before = near; child-of = w .1 } in
@@ -163,7 +164,7 @@ module _ {τ : ℕ} where
       (enteredFrom (query-at b) (b .args .left - 1) (w .1 .result) (w .4 .result))
       (Walked.same-state (w .9) (w .10) ∙ w .6 .ensures)
       (child-first h (w .4 .result) (bound-is u)))
-      (λ v. Children.cases v
+      (λ v. either v
       (λ w.
       let near : At τ lts.Then3 = record { before = c .before; if3 = w .0 } in
       let h : At τ lts.After-child-of = record { before = near; child-of = w .1 } in

@@ -1,2 +1,0 @@
--- What the sort is given of the keys.
-pub mod Kept

@@ -1,0 +1,237 @@
+-- Loop: what the pass has seen of the records before slot s, and how the record in slot s adds to it. Assumes nothing.
+use Prim.Native.Nat.{ℕ, _+_, _*_, _≤_, _<_, min, max}
+use mathlib.Core.Path.{_≡_, refl, sym, ap, _∙_, subst}
+use mathlib.Core.Bool.{Bool, true, false, _&&_, _||_, not, false≢true}
+use mathlib.Core.List.{List}
+use native.Mathlib.Omega.{arith}
+use native.Mathlib.Numerals.{add-one}
+use lib.Dec.{eqb}
+use mir.Val.{boolByte}
+use borrow.Author.Tests.{le-leb, lt-leb}
+use Rattle.places.specs.Choice.{pick, or-implies}
+use Rattle.places.specs.Test.{allTo, countTo, all-none, all-short, all-more, count-more, count-still, count-most}
+use Rattle.places.specs.Sum.{sumTo, sum-more, sum-still}
+use Rattle.places.specs.Decides.{decides-same}
+use Rattle.table.specs.Record.{Record, Used, used, noSlot, recordOf}
+use Rattle.table.specs.Same.{TellsFree}
+use Rattle.judge.specs.WellFormed.{isFree, isFilled, isRoot}
+use Rattle.judge.specs.Decided.{free-decided}
+use Rattle.judge.specs.Counted.{kindBefore, sameKind, allLinked, fits, usedCount, rootCount, childCount}
+use Rattle.survey.specs.Survey.{largestTimestamp}
+use Rattle.links.specs.declared.Seen.{Seen}
+use Rattle.links.specs.Loop.Found.{
+  FirstBefore,
+  LastBefore,
+  first-start,
+  first-still,
+  first-more,
+  last-start,
+  last-turn,
+}
+
+-- the largest number that a byte holds, and so the largest child count that is read
+abbrev pub largestByte : ℕ
+largestByte = 255
+
+-- a record without card
+abbrev pub isEmpty : (ℕ → Record) → ℕ → Bool
+isEmpty R s = not (used (R s))
+
+-- `few` is what keeps the sum of child counts within its type
+pub record SeenBefore (n : ℕ) (R : ℕ → Record) (s : ℕ) (seen : Seen) : Type 0 where
+  pub fit : seen .fit ≡ allTo s (fits n R)
+  pub kind : seen .kind ≡ kindBefore R s
+  pub used : seen .used ≡ usedCount s R
+  pub roots : seen .roots ≡ rootCount s R
+  pub children : seen .children ≡ childCount s R
+  pub few : seen .children ≤ largestByte * s
+  pub lowest : FirstBefore (isEmpty R) n s (seen .lowest)
+  pub largest : seen .largest ≡ largestTimestamp s R
+  pub root : LastBefore (isRoot R) n s (seen .root)
+
+pub byte-most : (t : Bool) → boolByte t ≤ 1
+byte-most true = omega arith
+byte-most false = omega arith
+
+byte-pick : (t : Bool) → boolByte t ≡ pick {A = ℕ} t 1 0
+byte-pick true = refl
+byte-pick false = refl
+
+-- the read of a free record is the test of one
+pub told : (l : List ℕ) (s : ℕ) (ok : Bool) → TellsFree l s ok → ok ≡ isFree (recordOf l s)
+told l s ok h = decides-same (record { shows = h .says; passes = h .said }) (free-decided (recordOf l s))
+
+module _ (n : ℕ) (R : ℕ → Record) where
+  -- one record more: the largest timestamp by whether it is used
+  largest-turn :
+      (s : ℕ) (t : Bool)
+      → used (R s) ≡ t
+      → largestTimestamp (s + 1) R ≡ max (pick t (R s .timestamp) 0) (largestTimestamp s R)
+  unfolding largestTimestamp
+  largest-turn s t e =
+      rw add-one (ap (λ (u : Bool). max (pick u (R s .timestamp) 0) (largestTimestamp s R)) e)
+
+  pub seen-none :
+      SeenBefore
+      n
+      R
+      0
+      (record {
+        fit = true;
+        kind = 0;
+        used = 0;
+        roots = 0;
+        children = 0;
+        lowest = n;
+        largest = 0;
+        root = n;
+      })
+  unfolding kindBefore countTo sumTo largestTimestamp
+  seen-none =
+      record {
+        fit = all-none (fits n R);
+        kind = refl;
+        used = refl;
+        roots = refl;
+        children = refl;
+        few = omega arith;
+        lowest = first-start (isEmpty R) n;
+        largest = refl;
+        root = last-start (isRoot R) n;
+      }
+
+  module _ (s : ℕ) (seen : Seen) (before : SeenBefore n R s seen) where
+    pub seen-most : (seen .used ≤ s) × (seen .roots ≤ s)
+    seen-most = (
+      omega (arith, before .used, count-most s (λ a. used (R a))),
+      omega (arith, before .roots, count-most s (isRoot R)),
+    )
+
+    -- what is asked of the record in slot s goes by whether it is used
+    by-use :
+        {t : Bool}
+        → used (R s) ≡ t
+        → fits n R s ≡ pick t (sameKind R s && (isFilled (R s) && allLinked n R s)) (isFree (R s))
+    unfolding fits
+    by-use = ap (λ (t : Bool). pick t (sameKind R s && (isFilled (R s) && allLinked n R s)) (isFree (R s)))
+
+    -- a record without card
+    pub seen-free :
+        (ok : Bool) (low : ℕ)
+        → R s .card ≡ 0
+        → ok ≡ isFree (R s)
+        → low ≡ min (seen .lowest) s
+        → SeenBefore
+        n
+        R
+        (s + 1)
+        (record {
+          fit = seen .fit && ok;
+          kind = seen .kind;
+          used = seen .used;
+          roots = seen .roots;
+          children = seen .children;
+          lowest = low;
+          largest = seen .largest;
+          root = seen .root;
+        })
+    unfolding kindBefore
+    seen-free ok low z e its-low =
+        let off : used (R s) ≡ false = lt-leb 1 (R s .card) (omega arith) in
+        let no-root : isRoot R s ≡ false = ap (λ (t : Bool). t && eqb (R s .parent) noSlot) off in
+        record {
+          fit =
+              all-more s (seen .fit) ok (fits n R) (before .fit)
+              (e ∙ sym (by-use off));
+          kind = rw add-one (before .kind ∙ sym (ap (λ (t : Bool). pick t (R s .kind) (kindBefore R s)) off));
+          used = count-still s (seen .used) (λ a. used (R a)) (before .used) off;
+          roots = count-still s (seen .roots) (isRoot R) (before .roots) no-root;
+          children =
+              sum-still s (seen .children) (λ a. pick (used (R a)) (R a .count) 0) (before .children)
+              (ap (λ (t : Bool). pick t (R s .count) 0) off);
+          few = omega (arith, before .few);
+          lowest = rw its-low (first-more (isEmpty R) n s (seen .lowest) (ap not off) (before .lowest));
+          largest = omega (arith, before .largest, largest-turn s false off);
+          root = last-turn (isRoot R) n s (seen .root) false no-root (before .root);
+        }
+
+    -- a used record, of which `ok` says whether it fits
+    pub seen-used :
+        (ok : Bool) (own count parent time largest root : ℕ)
+        → s < n
+        → Used (R s)
+        → ok ≡ (eqb (seen .kind) 0 || eqb (seen .kind) own) && (isFilled (R s) && allLinked n R s)
+        → own ≡ R s .kind
+        → count ≡ R s .count
+        → parent ≡ R s .parent
+        → time ≡ R s .timestamp
+        → count ≤ largestByte
+        → largest ≡ max time (seen .largest)
+        → root ≡ pick (eqb parent noSlot) s (seen .root)
+        → SeenBefore
+        n
+        R
+        (s + 1)
+        (record {
+          fit = seen .fit && ok;
+          kind = own;
+          used = seen .used + 1;
+          roots = seen .roots + boolByte (eqb parent noSlot);
+          children = seen .children + count;
+          lowest = seen .lowest;
+          largest = largest;
+          root = root;
+        })
+    unfolding kindBefore sameKind
+    seen-used ok own count parent time largest root b u e its-kind its-count its-parent its-time few its-largest its-root =
+        let on : used (R s) ≡ true = le-leb 1 (R s .card) u in
+        let same : (eqb (seen .kind) 0 || eqb (seen .kind) own) ≡ sameKind R s =
+        (λ i. eqb (before .kind i) 0 || eqb (before .kind i) (its-kind i))
+        ∙ or-implies (eqb (kindBefore R s) 0) (eqb (kindBefore R s) (R s .kind)) in
+        let a-root : isRoot R s ≡ eqb parent noSlot = λ i. on i && eqb (sym its-parent i) noSlot in
+        record {
+          fit =
+              all-more s (seen .fit) ok (fits n R) (before .fit)
+              (e ∙ ap (λ (t : Bool). t && (isFilled (R s) && allLinked n R s)) same ∙ sym (by-use on));
+          kind = rw add-one (its-kind ∙ sym (ap (λ (t : Bool). pick t (R s .kind) (kindBefore R s)) on));
+          used =
+              count-more s (seen .used) 1 (λ a. used (R a)) (before .used)
+              (sym (ap (λ (t : Bool). pick {A = ℕ} t 1 0) on));
+          roots =
+              count-more s (seen .roots) (boolByte (eqb parent noSlot)) (isRoot R) (before .roots)
+              (byte-pick (eqb parent noSlot) ∙ ap (λ (t : Bool). pick {A = ℕ} t 1 0) (sym a-root));
+          children =
+              sum-more s (seen .children) count (λ a. pick (used (R a)) (R a .count) 0) (before .children)
+              (its-count ∙ sym (ap (λ (t : Bool). pick t (R s .count) 0) on));
+          few = omega (arith, before .few);
+          lowest = first-still (isEmpty R) n s (seen .lowest) b (ap not on) (before .lowest);
+          largest = omega (arith, before .largest, largest-turn s true on);
+          root = rw its-root (last-turn (isRoot R) n s (seen .root) (eqb parent noSlot) a-root (before .root));
+        }
+
+-- ---- the end of the pass
+
+-- the pass ends with the last record, or with the first that does not fit; `few` keeps the numbers within their types
+pub record Ended (n : ℕ) (R : ℕ → Record) (seen : Seen) : Type 0 where
+  pub fit : seen .fit ≡ allTo n (fits n R)
+  pub whole : seen .fit ≡ true → SeenBefore n R n seen
+  pub few : (seen .children ≤ largestByte * n) × (seen .roots ≤ n)
+
+module _ (n : ℕ) (R : ℕ → Record) (seen : Seen) where
+  pub ended-whole : (s : ℕ) → s ≡ n → SeenBefore n R s seen → Ended n R seen
+  ended-whole s e part =
+      let all : SeenBefore n R n seen = subst (λ (k : ℕ). SeenBefore n R k seen) e part in
+      record {
+        fit = all .fit;
+        whole = λ _. all;
+        few = (all .few, seen-most n R n seen all .1);
+      }
+
+  -- the record in slot s does not fit
+  pub ended-early : (s : ℕ) → s < n → SeenBefore n R (s + 1) seen → seen .fit ≡ false → Ended n R seen
+  ended-early s b part out =
+      record {
+        fit = out ∙ sym (all-short (s + 1) n (fits n R) (omega arith) (sym (part .fit) ∙ out));
+        whole = λ e. absurd (false≢true (sym out ∙ e));
+        few = (omega (arith, part .few), omega (arith, seen-most n R (s + 1) seen part .1));
+      }

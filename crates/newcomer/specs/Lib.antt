@@ -1,0 +1,2 @@
+-- What a card brings, and what it changes in one record.
+pub mod Newcomer

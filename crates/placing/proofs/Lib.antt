@@ -1,0 +1,4 @@
+-- What the proofs of the functions cite.
+mod Descending
+mod Hung
+mod Placing
