@@ -1,10 +1,9 @@
 -- The call's ends: refused by the first tests or by the later ones, or placed (`ends-refused`, `ends-placed`), and what
 -- the placing may then know (`found-placeable`). Assumes nothing.
-use Prim.Native.Nat.{ℕ, _%_}
+use Prim.Native.Nat.{ℕ}
 use mathlib.Core.Bool.{Bool}
 use mathlib.Core.Path.{_≡_, sym, ap, ap₂, _∙_}
 use mathlib.Core.List.{List}
-use native.Mathlib.Omega.{arith}
 use lib.ListN.{length}
 use borrow.Author.Tests.{eq-eqb, ne-eqb}
 use Rattle.places.specs.Choice.{pick}
@@ -13,20 +12,17 @@ use Rattle.distance.specs.Signature.{readingsAt, readings-fit}
 use Rattle.distance.specs.Kind.{apart}
 use Rattle.table.specs.Record.{recordOf}
 use Rattle.table.specs.Table.{recordsIn, recordsOf}
-use Rattle.table.specs.Size.{whole}
+use Rattle.table.specs.Stands.{are-whole, right-are, whole-same}
 use Rattle.table.specs.RoundTrip.{bytes-back}
 use Rattle.survey.specs.declared.Findings.{Findings}
-use Rattle.survey.specs.Survey.{slotOfCard}
 use Rattle.survey.specs.Answers.{Answers}
-use Rattle.view.specs.Refusal.{otherKind}
 use Rattle.refusals.specs.Refusal.{done}
 use Rattle.placing.specs.Place.{placed}
 use Rattle.newcomer.specs.Newcomer.{Newcomer, newcomer}
 use Rattle.insert.specs.Insert.{refusalOf, inserted, insertOf}
 use Rattle.placing.specs.Changed.{changed}
 use Rattle.refusals.specs.Outcome.{Outcome, refused}
-use Rattle.insert.specs.Refusals.{lateBy, lateOf}
-use Rattle.insert.specs.Accepted.{comer, accepted-size, accepted-ready, accepted-clock}
+use Rattle.insert.specs.Accepted.{comer, accepted-readable, accepted-ready, accepted-clock}
 use Rattle.placing.specs.Hang.{leaves}
 use Rattle.placing.specs.Placeable.{Placeable}
 
@@ -46,16 +42,6 @@ module _ (l : List ℕ) (card kind arity : ℕ) (s : List ℕ) where
   unfolding insertOf refused
   ends-refused k r c e ne er ec = rw (e, ne-eqb k done ne, er, ec)
 
-  -- ---- the later tests
-
-  -- the survey's answers give the definition's tests
-  pub late-found :
-      {f : Findings} (answers : Answers n (recordOf l) f) (slot : ℕ)
-      → slot ≡ slotOfCard n (recordOf l) card
-      → lateBy f n kind slot ≡ lateOf l card kind arity s
-  unfolding otherKind
-  late-found answers slot at-slot = rw (answers .used, answers .kind, answers .lowest, answers .largest, at-slot)
-
   -- ---- placed
 
   module _ (none : refusalOf l card kind arity s ≡ done) {f : Findings} (answers : Answers n (recordOf l) f)
@@ -70,7 +56,7 @@ module _ (l : List ℕ) (card kind arity : ℕ) (s : List ℕ) where
     found-placeable =
         record {
           answers = answers;
-          size = accepted-size l card kind arity s none;
+          size = accepted-readable l card kind arity s none .size;
           ready = rw (answers .lowest, ← same-comer) (accepted-ready l card kind arity s none);
           fit = rw read (readings-fit s 0 bytes);
           clock = rw (answers .largest) (accepted-clock l card kind arity s none);
@@ -84,8 +70,8 @@ module _ (l : List ℕ) (card kind arity : ℕ) (s : List ℕ) where
         → _≡_ {A = Outcome} (record { refusal = done; count = r; table = j }) (insertOf l card kind arity s)
     unfolding insertOf changed inserted
     ends-placed j r bytes-j long e =
-        let right = accepted-size l card kind arity s none in
-        let even : length j % 64 ≡ 0 = omega (arith, long, whole (length l) right .0) in
+        let right = accepted-readable l card kind arity s none .size in
+        let even = whole-same l j long (are-whole l n (right-are l right)) in
         let p : leaves j r ≡ inserted l card kind arity s =
         e
         ∙ ap₂

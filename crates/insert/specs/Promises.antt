@@ -31,7 +31,7 @@ use Rattle.insert.specs.Insert.{refusalOf, inserted, insertOf}
 use Rattle.placing.specs.Changed.{changed}
 use Rattle.refusals.specs.Outcome.{Outcome, refused}
 use Rattle.refusals.specs.Limits.{lastTimestamp}
-use Rattle.insert.specs.Accepted.{comer, accepted-size, accepted-ready, accepted-clock}
+use Rattle.insert.specs.Accepted.{comer, accepted-readable, accepted-ready, accepted-clock}
 use Rattle.placing.specs.RowsFit.{placed-fits}
 
 -- the record in each slot of a table
@@ -90,7 +90,7 @@ module _ (l : List ℕ) (card kind arity : ℕ) (s : List ℕ) where
     clock =
         subst
         (λ (R : ℕ → Record). largestTimestamp n R < lastTimestamp)
-        (sym (rows-are l (accepted-size l card kind arity s none)))
+        (sym (rows-are l (accepted-readable l card kind arity s none .size)))
         (accepted-clock l card kind arity s none)
 
     module _ (bytes : Bytes l) (signature : Bytes s) (number : card < 2 ^ 32) where

@@ -1,5 +1,5 @@
--- What each of the newcomer's changes of a record comes to: a radius, a child, and the eight child slots. Assumes
--- nothing.
+-- What each of the newcomer's changes of a record comes to: one write after others, a radius, a child, and the eight
+-- child slots. Assumes nothing.
 use Prim.Native.Nat.{ℕ, zero, suc, _+_, _≤_, _<_, max}
 use mathlib.Core.Path.{_≡_, refl, sym, ap, _∙_}
 use mathlib.Core.List.{List}
@@ -7,9 +7,23 @@ use native.Mathlib.Omega.{arith}
 use native.Mathlib.Numerals.{add-one}
 use lib.ListN.{length, set, replicate, length-set, length-replicate, getD-replicate}
 use Rattle.places.specs.Fill.{Filled, filled-more, filled-all}
-use Rattle.table.specs.Record.{Record, noSlot}
+use Rattle.table.specs.Record.{Record, recordOf, noSlot}
 use Rattle.table.specs.Put.{parts, withRadius, withSlot, withCount}
+use Rattle.table.specs.Stands.{Stands, stands-same}
+use Rattle.table.specs.Laws.{Became, then-with}
 use Rattle.newcomer.specs.Newcomer.{raised, adopting}
+
+-- ---- one write after others
+
+-- the slot that was written stands still, and may be written again
+pub wrote-then :
+    {l m k : List ℕ} {s : ℕ} {r : Record} (f : Record → Record)
+    → Became l s r m
+    → Stands l s
+    → (Stands m s → Became m s (f (recordOf m s)) k)
+    → Became l s (f r) k
+wrote-then {l} {m} {s = s} f before stands write =
+    then-with f before (write (stands-same l m (before .same-length) s stands))
 
 -- ---- a radius, and a child
 

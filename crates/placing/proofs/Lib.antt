@@ -1,4 +1,4 @@
 -- What the proofs of the functions cite.
-mod Walking
-mod Hanging
+mod Descending
+mod Hung
 mod Placing

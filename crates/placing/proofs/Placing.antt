@@ -1,7 +1,7 @@
 -- A newcomer's card written into its slot and then hung makes what the definition places (`placed-first`,
 -- `placed-later`). The key idea: the definition places into rows in which the slot is free; nothing links to a free
 -- slot, so no walk looks at it. Assumes nothing.
-use Prim.Native.Nat.{ℕ, _+_, _%_, _≤_}
+use Prim.Native.Nat.{ℕ, _+_, _≤_}
 use mathlib.Core.Path.{_≡_, sym, ap, _∙_, subst}
 use mathlib.Core.List.{List}
 use native.Mathlib.Omega.{arith}
@@ -13,7 +13,7 @@ use Rattle.distance.specs.Kind.{apart}
 use Rattle.table.specs.Record.{Record, free, recordOf, noSlot}
 use Rattle.table.specs.Table.{recordsIn, recordsOf, at}
 use Rattle.table.specs.Records.{records-at}
-use Rattle.table.specs.Size.{whole, rows-are}
+use Rattle.table.specs.Size.{rows-are}
 use Rattle.table.specs.Laws.{Became, became-then}
 use Rattle.judge.specs.WellFormed.{WellFormed}
 use Rattle.survey.specs.declared.Findings.{Findings}
@@ -26,7 +26,18 @@ use Rattle.newcomer.specs.Newcomer.{brought, Newcomer, fresh, named}
 use Rattle.placing.specs.Place.{Placed, asRoot, hanging, placed}
 use Rattle.placing.specs.Place.Agree.{Agree, Unlinked, hanging-agree, hanging-count}
 use Rattle.placing.specs.Place.Settled.{not-new}
-use Rattle.table.specs.Stands.{Stands, walkable-same}
+use Rattle.table.specs.Stands.{
+  Stands,
+  stands-in,
+  stands-same,
+  walkable-same,
+  right-are,
+  right-most,
+  right-whole,
+  are-same,
+  are-large,
+  whole-same,
+}
 use Rattle.placing.specs.Hang.{Hangable}
 use Rattle.placing.specs.Hangable.{hangable}
 use Rattle.view.specs.Readable.{formed-walkable}
@@ -50,26 +61,26 @@ module _ {l : List ℕ} {f : Findings} {x : Newcomer} {arity : ℕ} (ok : Placea
   answers = subst (λ (R : ℕ → Record). Answers n R f) (sym (rows-are l (ok .size))) (ok .answers)
 
   pub slot-stands : Stands l s
-  slot-stands = omega (arith, ok .ready .slot-within)
+  slot-stands = stands-in l s (ok .ready .slot-within)
 
   -- the definition, by the survey's answers
-  pub placed-root : f .used ≡ 0 → placed (apart (x .kind)) arity s x rows ≡ asRoot (apart (x .kind)) arity s x rows next
+  pub found-root : f .used ≡ 0 → placed (apart (x .kind)) arity s x rows ≡ asRoot (apart (x .kind)) arity s x rows next
   unfolding placed
-  placed-root z =
+  found-root z =
       rw (ok .ready .length-is, ← answers .used, z, answers .largest)
 
-  pub placed-hanging :
+  pub found-hanging :
       (f .used ≡ 0 → ⊥)
       → placed (apart (x .kind)) arity s x rows ≡ hanging (apart (x .kind)) arity s x rows next (f .used) (f .root)
   unfolding placed
-  placed-hanging nz =
+  found-hanging nz =
       rw (ok .ready .length-is, ← answers .used, ne-eqb (f .used) 0 nz, answers .largest, answers .root)
 
   -- ---- the card is written
 
   module _ {m : List ℕ} (written : Became l s (named (x .card) (x .kind) (x .readings) (recordOf l s)) m) where
     pub named-stands : Stands m s
-    named-stands = omega (arith, written .same-length, slot-stands)
+    named-stands = stands-same l m (written .same-length) s slot-stands
 
     pub named-newcomer : brought (recordOf m s) ≡ x
     named-newcomer = ap brought (written .here)
@@ -86,7 +97,7 @@ module _ {l : List ℕ} {f : Findings} {x : Newcomer} {arity : ℕ} (ok : Placea
         ap
         (λ (rs : List Record). record { rows = rs; count = 0 })
         (became-then written seated .records ∙ same)
-        ∙ sym (placed-root z)
+        ∙ sym (found-root z)
 
     -- ---- nothing links to the slot
 
@@ -117,7 +128,7 @@ module _ {l : List ℕ} {f : Findings} {x : Newcomer} {arity : ℕ} (ok : Placea
 
       pub named-hangable : Hangable m (x .kind) arity s (f .root) (f .used)
       named-hangable =
-          let size = whole (length l) (ok .size) in
+          let many = are-same l m (written .same-length) n (right-are l (ok .size)) in
           let wf : WellFormed n (recordOf l) = subst (WellFormed n) (rows-are l (ok .size)) (ok .ready .well-formed) in
           rw (answers .root, answers .used)
           (hangable
@@ -126,8 +137,8 @@ module _ {l : List ℕ} {f : Findings} {x : Newcomer} {arity : ℕ} (ok : Placea
           s
           rows
           waits
-          (walkable-same (written .same-length) counts slots (formed-walkable l (omega (arith, size .0)) wf))
-          (omega (arith, written .same-length, size .0, size .1))
+          (walkable-same (written .same-length) counts slots (formed-walkable l (right-whole l (ok .size)) wf))
+          (are-large m n many (right-most l (ok .size)))
           named-stands
           (ok .ready .arity-to-8)
           agree
@@ -178,9 +189,9 @@ module _ {l : List ℕ} {f : Findings} {x : Newcomer} {arity : ℕ} (ok : Placea
           → p ≡ hanging (apart (x .kind)) arity s (brought (at (recordsOf m) s)) (recordsOf m) next (f .used) (f .root)
           → p ≡ placed (apart (x .kind)) arity s x rows
       placed-later p e =
-          let even : length m % 64 ≡ 0 = omega (arith, written .same-length, whole (length l) (ok .size) .0) in
+          let even = whole-same l m (written .same-length) (right-whole l (ok .size)) in
           let comes : brought (at (recordsOf m) s) ≡ x = ap brought (records-at m even s) ∙ named-newcomer in
           e
           ∙ ap (λ (y : Newcomer). hanging (apart (x .kind)) arity s y (recordsOf m) next (f .used) (f .root)) comes
           ∙ same-hanging
-          ∙ sym (placed-hanging nz)
+          ∙ sym (found-hanging nz)

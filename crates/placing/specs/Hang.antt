@@ -3,7 +3,8 @@ use Prim.Native.Nat.{ℕ, _≤_, _<_}
 use mathlib.Core.List.{List}
 use lib.ListN.{length}
 use Rattle.distance.specs.Kind.{apart}
-use Rattle.table.specs.Record.{Record}
+use Rattle.refusals.specs.Limits.{mostRecords, mostChildren}
+use Rattle.table.specs.Record.{Record, largestTable}
 use Rattle.table.specs.Table.{recordsOf, at}
 use Rattle.tree.specs.Insert.{path, last}
 use Rattle.view.specs.View.{viewOf}
@@ -19,13 +20,13 @@ hostOf rows kind arity s root depth =
 -- the newcomer in slot s of the table l can be hung
 pub record Hangable (l : List ℕ) (kind arity s root depth : ℕ) : Type 0 where
   pub walkable : Walkable l
-  pub size : length l ≤ 65536
+  pub size : length l ≤ largestTable
   pub slot-stands : Stands l s
   pub root-stands : Stands l root
   pub some : 1 ≤ depth
-  pub deep : depth ≤ 1024
+  pub deep : depth ≤ mostRecords
   -- the record on which it hangs has room for one child more
-  pub room : at (recordsOf l) (hostOf (recordsOf l) kind arity s root depth) .count < 8
+  pub room : at (recordsOf l) (hostOf (recordsOf l) kind arity s root depth) .count < mostChildren
 
 -- what the bytes l and a count of distances hold
 abbrev pub leaves : List ℕ → ℕ → Placed

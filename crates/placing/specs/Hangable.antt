@@ -1,14 +1,15 @@
 -- Where a newcomer can be hung: in a table whose rows agree, outside slots that wait for their turn, with a well-formed
 -- table (`hangable`). Insert has one slot that waits, delete those of all records that stood below the deleted card.
 -- Assumes nothing.
-use Prim.Native.Nat.{ℕ, _%_, _≤_, _<_}
+use Prim.Native.Nat.{ℕ, _≤_, _<_}
 use mathlib.Core.Path.{_≡_, ap, _∙_}
 use mathlib.Core.List.{List}
 use native.Mathlib.Omega.{arith}
 use lib.ListN.{length}
 use Rattle.distance.specs.Kind.{apart}
-use Rattle.table.specs.Record.{Record, recordOf, children}
-use Rattle.table.specs.Table.{recordsIn, recordsOf, at}
+use Rattle.refusals.specs.Limits.{mostRecords, mostChildren}
+use Rattle.table.specs.Record.{Record, children, largestTable}
+use Rattle.table.specs.Table.{recordsOf, at}
 use Rattle.table.specs.Records.{records-length}
 use Rattle.judge.specs.WellFormed.{WellFormed}
 use Rattle.survey.specs.Survey.{usedIn, rootOf}
@@ -24,14 +25,15 @@ use Rattle.view.specs.Survey.{usedIn-usedCount, rootOf-is}
 use Rattle.view.specs.Formed.{free-or-used, count-fits, formed-view}
 use Rattle.placing.specs.Place.Agree.{Agree, Unlinked}
 use Rattle.placing.specs.Place.Room.{attach-room}
-use Rattle.table.specs.Stands.{Stands, Walkable}
+use Rattle.table.specs.Stands.{Stands, Walkable, stands-in}
 use Rattle.placing.specs.Hang.{hostOf, Hangable}
 
 -- ---- where a newcomer can be hung
 
 module _ {l : List ℕ} {n : ℕ} (kind arity s : ℕ) (D : List Record) (waits : ℕ → Type 0)
-    (walkable : Walkable l) (size : length l ≤ 65536) (slot-stands : Stands l s) (arity-to-8 : arity ≤ 8)
-    (agree : Agree waits (recordsOf l) D) (long : length D ≡ n) (small : n ≤ 1024) (shape : Shaped n (at D))
+    (walkable : Walkable l) (size : length l ≤ largestTable) (slot-stands : Stands l s)
+    (arity-to-8 : arity ≤ mostChildren)
+    (agree : Agree waits (recordsOf l) D) (long : length D ≡ n) (small : n ≤ mostRecords) (shape : Shaped n (at D))
     (wf : WellFormed n (at D)) (some : 1 ≤ usedIn n (at D)) (unlinked : Unlinked waits D (rootOf n (at D))) where
   abbrev root : ℕ
   root = rootOf n (at D)
@@ -74,7 +76,7 @@ module _ {l : List ℕ} {n : ℕ} (kind arity s : ℕ) (D : List Record) (waits 
       (unlinked .root-stays)
       (attach-∈ (apart kind) (viewOf (at D)) x arity depth root (omega (arith, some)))
 
-  host-count : at D (last root walk) .count < 8
+  host-count : at D (last root walk) .count < mostChildren
   unfolding attach
   host-count =
       let seen = formed-view small shape wf some in
@@ -92,7 +94,8 @@ module _ {l : List ℕ} {n : ℕ} (kind arity s : ℕ) (D : List Record) (waits 
         walkable = walkable;
         size = size;
         slot-stands = slot-stands;
-        root-stands = omega (arith, rootOf-is n (at D) wf some .0, long, agree .long, records-length l);
+        root-stands =
+            stands-in l root (omega (arith, rootOf-is n (at D) wf some .0, long, agree .long, records-length l));
         some = some;
         deep = omega (arith, usedIn-most n (at D), small);
         room =

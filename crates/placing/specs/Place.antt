@@ -40,7 +40,8 @@ module _ (d : List ℕ → List ℕ → ℕ) (arity : ℕ) (s : ℕ) (x : Newcom
   unfoldable pub asRoot : ℕ → Placed
   asRoot t = record { rows = set rows s (fresh x t noSlot); count = 0 }
 
-  -- the newcomer hangs below the last record that was visited; "1 plus the child counts, before the call, of all records visited"
+  -- the newcomer hangs below the last record that was visited; the count is "1 plus the child counts, before the call,
+  -- of all records visited"
   unfoldable pub hangingFrom : ℕ → ℕ → List ℕ → Placed
   hangingFrom t on p =
       record {

@@ -1,5 +1,5 @@
--- The stored cards: "each with the kind and signature that its accepted insert brought". Which are stored after a change
--- to one slot, in the plainest form for histories of calls. Assumes nothing.
+-- The stored cards: "each with the kind and signature that its accepted insert brought". Which are stored after a
+-- change to one slot, in the plainest form for histories of calls. Assumes nothing.
 use Prim.Native.Nat.{ℕ, _<_}
 use mathlib.Core.Path.{_≡_, sym, ap, _∙_}
 use mathlib.Core.Logic.{_⊎_, inl, inr, _↔_}

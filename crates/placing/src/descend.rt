@@ -11,7 +11,7 @@ use distance::Signature;
 use newcomer::raise;
 
 // Above every distance, so that the first child is always nearer.
-const FARTHER: u32 = 1048561;
+const FARTHER: u32 = distance::FARTHEST + 1;
 
 // Where the newcomer hangs, and the distances worked out.
 pub(crate) struct Attach {

@@ -1,5 +1,5 @@
-// Placing one newcomer by the insert rule (001, Algorithm 1): insert places one, delete hangs again those that stood below
-// the deleted card.
+// Placing one newcomer by the insert rule (001, Algorithm 1): insert places one, delete hangs again those that stood
+// below the deleted card.
 ghost use mathlib.Core.Path.{_≡_};
 ghost use Prim.Native.Nat.{_+_, _*_, _≤_};
 ghost use Rattle.distance.specs.Kind.{apart};

@@ -229,7 +229,7 @@ module _ (r : Record) (fit : Fitting r) where
 -- ---- rows of records
 
 pub bytesOf-length : (rows : List Record) → FittingRow rows → AreRecords (bytesOf rows) (length rows)
-unfolding bytesOf
+unfolding bytesOf AreRecords
 bytesOf-length [] fit = refl
 bytesOf-length (r ∷ rs) fit =
     let one = fit 0 (omega arith) in

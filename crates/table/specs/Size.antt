@@ -8,7 +8,7 @@ use lib.ListN.{length, replicate, length-replicate}
 use Rattle.refusals.specs.Limits.{mostRecords}
 use Rattle.table.specs.Record.{recordLength, placeOf, recordOf}
 use Rattle.table.specs.Table.{rightSize, recordsOf, at, freeTable}
-use Rattle.table.specs.Stands.{right-whole, right-most, right-some, are-right, free-are}
+use Rattle.table.specs.Stands.{AreRecords, WholeRecords, right-whole, right-most, right-some, are-right, free-are}
 use Rattle.table.specs.Records.{records-at}
 
 -- a right size is whole records, 1 to 1,024 of them; of a table say `right-are`, `right-most`, `right-some`
@@ -16,6 +16,7 @@ pub whole :
     (n : ℕ)
     → rightSize n ≡ true
     → (n ≡ n / recordLength * recordLength) × (n / recordLength ≤ mostRecords) × (1 ≤ n / recordLength)
+unfolding WholeRecords
 whole n e =
     let long = length-replicate {A = ℕ} n 0 in
     let right : rightSize (length (replicate {A = ℕ} n 0)) ≡ true = rw long e in (
@@ -26,6 +27,7 @@ whole n e =
 
 -- and so many whole records are of the right size
 pub right-size : (n : ℕ) → 1 ≤ n → n ≤ mostRecords → rightSize (placeOf n) ≡ true
+unfolding AreRecords
 right-size n some few = rw (← free-are n) (are-right (freeTable n) n (free-are n) some few)
 
 -- its rows are its bytes' records, in every slot

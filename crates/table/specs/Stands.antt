@@ -16,19 +16,19 @@ use Rattle.table.specs.Table.{rightSize, recordsIn, freeTable}
 -- ---- what stands
 
 -- slot s stands in the bytes l
-abbrev pub Stands : List ℕ → ℕ → Type 0
+unfoldable pub Stands : List ℕ → ℕ → Type 0
 Stands l s = placeOf s + recordLength ≤ length l
 
 -- the first n slots do
-abbrev pub StandTo : List ℕ → ℕ → Type 0
+unfoldable pub StandTo : List ℕ → ℕ → Type 0
 StandTo l n = placeOf n ≤ length l
 
 -- the bytes are n records, and nothing besides
-abbrev pub AreRecords : List ℕ → ℕ → Type 0
+unfoldable pub AreRecords : List ℕ → ℕ → Type 0
 AreRecords l n = length l ≡ placeOf n
 
 -- the bytes are whole records
-abbrev pub WholeRecords : List ℕ → Type 0
+unfoldable pub WholeRecords : List ℕ → Type 0
 WholeRecords l = length l % recordLength ≡ 0
 
 -- what a walk asks of a table: whole records, each with at most eight children, and these stand in it
@@ -41,61 +41,75 @@ pub record Walkable (l : List ℕ) : Type 0 where
 
 -- each of the first n
 pub stands-below : (l : List ℕ) (n s : ℕ) → StandTo l n → s < n → Stands l s
+unfolding StandTo Stands
 stands-below l n s h b = omega arith
 
 pub stand-to-less : (l : List ℕ) (n k : ℕ) → StandTo l n → k ≤ n → StandTo l k
+unfolding StandTo
 stand-to-less l n k h b = omega arith
 
 -- a slot stands exactly if it is one of the table's
 pub stands-in : (l : List ℕ) (s : ℕ) → s < recordsIn l → Stands l s
+unfolding Stands
 stands-in l s h = omega arith
 
 pub in-stands : (l : List ℕ) (s : ℕ) → Stands l s → s < recordsIn l
+unfolding Stands
 in-stands l s h = omega arith
 
 -- all slots of a table stand in it, and no more
 pub stand-all : (l : List ℕ) → StandTo l (recordsIn l)
+unfolding StandTo
 stand-all l = omega arith
 
 pub stand-most : (l : List ℕ) (n : ℕ) → StandTo l n → n ≤ recordsIn l
+unfolding StandTo
 stand-most l n h = omega arith
 
 -- ---- bytes that are whole records
 
 pub whole-are : (l : List ℕ) → WholeRecords l → AreRecords l (recordsIn l)
+unfolding WholeRecords AreRecords
 whole-are l w = omega arith
 
 pub are-whole : (l : List ℕ) (n : ℕ) → AreRecords l n → WholeRecords l
+unfolding AreRecords WholeRecords
 are-whole l n e = omega arith
 
 pub are-in : (l : List ℕ) (n : ℕ) → AreRecords l n → recordsIn l ≡ n
+unfolding AreRecords
 are-in l n e = omega arith
 
 pub are-stand : (l : List ℕ) (n : ℕ) → AreRecords l n → StandTo l n
+unfolding AreRecords StandTo
 are-stand l n e = omega arith
 
 -- a slot stands in n records exactly if it is one of them
 pub are-stands : (l : List ℕ) (n s : ℕ) → AreRecords l n → s < n → Stands l s
+unfolding AreRecords Stands
 are-stands l n s e b = omega arith
 
 pub stands-are : (l : List ℕ) (n s : ℕ) → AreRecords l n → Stands l s → s < n
+unfolding AreRecords Stands
 stands-are l n s e h = omega arith
 
 -- as many records, as many bytes
 pub are-long : (l m : List ℕ) (n : ℕ) → AreRecords l n → AreRecords m n → length l ≡ length m
+unfolding AreRecords
 are-long l m n e f = e ∙ sym f
 
 -- so many are a table's most
 pub are-large : (l : List ℕ) (n : ℕ) → AreRecords l n → n ≤ mostRecords → length l ≤ largestTable
+unfolding AreRecords
 are-large l n e h = omega arith
 
 -- n free records are n records, and n records made free are these
 pub free-are : (n : ℕ) → AreRecords (freeTable n) n
-unfolding freeTable
+unfolding freeTable AreRecords
 free-are n = length-replicate {A = ℕ} (placeOf n) 0
 
 pub are-free : (l : List ℕ) (n : ℕ) → AreRecords l n → replicate (length l) 0 ≡ freeTable n
-unfolding freeTable
+unfolding freeTable AreRecords
 are-free l n e = ap (λ (k : ℕ). replicate k 0) e
 
 -- ---- the right size
@@ -114,6 +128,7 @@ right-parts n e =
 module _ (l : List ℕ) (right : rightSize (length l) ≡ true) where
   -- a table of the right size is whole records, 1 to 1,024 of them
   pub right-whole : WholeRecords l
+  unfolding WholeRecords
   right-whole = right-parts (length l) right .0
 
   pub right-are : AreRecords l (recordsIn l)
@@ -127,7 +142,7 @@ module _ (l : List ℕ) (right : rightSize (length l) ≡ true) where
 
 -- and so many records are of the right size
 pub are-right : (l : List ℕ) (n : ℕ) → AreRecords l n → 1 ≤ n → n ≤ mostRecords → rightSize (length l) ≡ true
-unfolding rightSize
+unfolding rightSize AreRecords WholeRecords
 are-right l n e some few =
     and-both (leb recordLength (length l) && leb (length l) largestTable) (eqb (length l % recordLength) 0)
     (and-both (leb recordLength (length l)) (leb (length l) largestTable)
@@ -139,15 +154,19 @@ are-right l n e some few =
 
 module _ (l m : List ℕ) (long : length m ≡ length l) where
   pub stands-same : (s : ℕ) → Stands l s → Stands m s
+  unfolding Stands
   stands-same s h = omega arith
 
   pub stand-to-same : (n : ℕ) → StandTo l n → StandTo m n
+  unfolding StandTo
   stand-to-same n h = omega arith
 
   pub are-same : (n : ℕ) → AreRecords l n → AreRecords m n
+  unfolding AreRecords
   are-same n e = long ∙ e
 
   pub whole-same : WholeRecords l → WholeRecords m
+  unfolding WholeRecords
   whole-same w = ap (λ (k : ℕ). k % recordLength) long ∙ w
 
   pub in-same : recordsIn m ≡ recordsIn l
@@ -170,11 +189,17 @@ walkable-same {l} {m} long counts slots w =
           (w .stand s i (stands-same m l (sym long) s h) (rw (counts s) at p)));
     }
 
+-- ---- for `search`: what stands, from what stood or stands besides
+
+pub ruleset standing = (stands-below, stands-same, stand-to-same, stands-in, are-stand, stand-all, whole-same, are-same)
+
 -- ---- where the bytes are, for the laws of the table's own bytes
 
 pub stands-place : (l : List ℕ) (s : ℕ) → Stands l s → placeOf s + recordLength ≤ length l
+unfolding Stands
 stands-place l s h = h
 
 -- past its records a table has no byte
 pub past-place : (l : List ℕ) (s : ℕ) → WholeRecords l → recordsIn l ≤ s → length l ≤ placeOf s
+unfolding WholeRecords
 past-place l s w h = omega arith

@@ -1,6 +1,6 @@
--- A well-formed table's view is what the tree's theorems ask for (`formed-view`), and back again (`formed-table`), given
--- what the view does not see (`Fields`). The key idea: no slot of a table is 65,535, so a record has a parent or is the
--- root; and rising timestamps let each child stand once. Assumes nothing.
+-- A well-formed table's view is what the tree's theorems ask for (`formed-view`), and back again (`formed-table`),
+-- given what the view does not see (`Fields`). The key idea: no slot of a table is 65,535, so a record has a parent or
+-- is the root; and rising timestamps let each child stand once. Assumes nothing.
 use Prim.Native.Nat.{ℕ, suc, _+_, _≤_, _<_}
 use mathlib.Core.Path.{_≡_, sym, ap, _∙_}
 use mathlib.Core.Logic.{_⊎_, inl, inr}
@@ -172,7 +172,8 @@ module _ {n : ℕ} {R : ℕ → Record} {root : ℕ} (small : n ≤ mostRecords)
               parent-used = h .0;
               parent-older = seen .older (R s .parent) s (h .1);
               stands-once =
-                  child-standing (R (R s .parent)) (holds (R s .parent)) s (children-distinct seen (R s .parent)) (h .1);
+                  let p = R s .parent in
+                  child-standing (R p) (holds p) s (children-distinct seen p) (h .1);
             };
         owned =
             λ a i b u l.

@@ -1,6 +1,7 @@
--- "Sound: well formed, and (a) each record's covering radius is at least its distance to every record below it; (b) if b
--- and c are children of one record, and x stands below b with c older than x, then x is no farther from b than from c. A
--- free table is sound." (a) and (b) are `Sound` of the tree, at the distance of the table's kind. Assumes nothing.
+-- "Sound: well formed, and (a) each record's covering radius is at least its distance to every record below it; (b) if
+-- b and c are children of one record, and x stands below b with c older than x, then x is no farther from b than from
+-- c. A free table is sound." (a) and (b) are `Sound` of the tree, at the distance of the table's kind. Assumes
+-- nothing.
 use Prim.Native.Nat.{ℕ, _<_}
 use mathlib.Core.Path.{_≡_, ap, _∙_}
 use mathlib.Core.Logic.{_⊎_, inl, inr}

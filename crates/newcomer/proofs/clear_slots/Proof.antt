@@ -1,16 +1,16 @@
--- `newcomer::clear_slots` meets its contract. The loop's invariant: the first i child slots are 65,535, and
--- nothing else has changed. Assumes nothing.
-use Prim.Native.Nat.{ℕ, _+_, _*_, _≤_, _-_}
+-- `newcomer::clear_slots` meets its contract. The loop's invariant: the first i child slots are 65,535, and nothing
+-- else has changed. Assumes nothing.
+use Prim.Native.Nat.{ℕ, _≤_, _-_}
 use mathlib.Core.Path.{_≡_, refl, sym, ap, _∙_}
-use lib.ListN.{length}
-use Rattle.table.specs.Record.{recordOf, noSlot}
-use Rattle.table.specs.Same.{slots-length}
-use Rattle.table.specs.Put.{withSlot}
-use Rattle.table.specs.Laws.{Became, put-slot, became-by, became-none, then-with}
-use Rattle.newcomer.proofs.Writes.{withSlots}
-use Rattle.newcomer.proofs.Writes.{cleared, cleared-none, cleared-more, cleared-all}
 use native.Mathlib.Omega.{arith}
 use borrow.Author.Needs.{needs}
+use lib.ListN.{length}
+use Rattle.table.specs.Record.{Record, recordOf, noSlot}
+use Rattle.table.specs.Same.{slots-length}
+use Rattle.table.specs.Put.{withSlot}
+use Rattle.table.specs.Stands.{stands-same}
+use Rattle.table.specs.Laws.{Became, put-slot, became-by, became-none}
+use Rattle.newcomer.proofs.Writes.{wrote-then, withSlots, cleared, cleared-none, cleared-more, cleared-all}
 use Rattle.newcomer.proofs.clear_slots.Statement.{statement}
 use Rattle.newcomer.proofs.clear_slots.Tie as tie
 
@@ -21,15 +21,31 @@ Inv-loop t₀ s i₀ t i =
 abbrev μ-loop : tie.MeasureT-loop
 μ-loop t₀ s i₀ t i = 8 - i
 
+-- ---- stations: the loop's head, and the turn's write
+
+abbrev start : tie.At-loop Inv-loop μ-loop → tie.Start Inv-loop μ-loop
+start c = c .before .before
+
+abbrev turn : tie.After-put-slot Inv-loop μ-loop → tie.In-loop Inv-loop μ-loop
+turn c = c .before .before
+
+abbrev was : tie.Start Inv-loop μ-loop → Record
+was b = recordOf (b .args .t .now) (b .args .s)
+
+-- ---- needs
+
 loop-holds : tie.Need-loop-holds Inv-loop μ-loop
 loop-holds c =
-    let l = c .before .args .t .now in
-    let s = c .before .args .s in
-    let none = ap (withSlots (recordOf l s)) (sym (cleared-none (recordOf l s .slots))) in
-    (omega arith, refl, became-by (became-none l s (c .before .pre)) none refl)
+    let b = c .before in
+    let none = ap (withSlots (was b)) (sym (cleared-none (was b .slots))) in
+    (omega arith, refl, became-by (became-none (b .args .t .now) (b .args .s) (b .pre)) none refl)
 
 put-slot-requires : tie.Need-put-slot-requires Inv-loop μ-loop
-put-slot-requires c κs = search needs
+put-slot-requires c κs =
+    let head = c .before .before in
+    let b = start head in
+    let stands = stands-same (b .args .t .now) (head .loop .t) (head .loop .inv .1) (b .args .s) (b .pre) in
+    (stands, c .before .loop-test .taken)
 
 add-i : tie.Need-add-i Inv-loop μ-loop
 add-i c = search needs
@@ -39,21 +55,17 @@ loop-less c = search needs
 
 loop-again : tie.Need-loop-again Inv-loop μ-loop
 loop-again c =
-    let at-loop = c .before .before .before .before .before in
-    let start = at-loop .before .before in
-    let l = start .args .t .now in
-    let s = start .args .s in
-    let m = at-loop .loop .t in
-    let i = at-loop .loop .i in
-    let so-far = at-loop .loop .inv .2 in
-    let long : s * 64 + 64 ≤ length m = omega (arith, so-far .same-length, start .pre) in
-    let more = put-slot m s long i noSlot (c .before .before .before .before .loop-test .taken) (omega arith) in (
+    let wrote = c .before .before in
+    let head = turn wrote .before in
+    let b = start head in
+    let i = head .loop .i in (
       omega arith,
       search needs,
       became-by
-          (then-with (λ r. withSlot r i noSlot) so-far more)
-          (ap (withSlots (recordOf l s)) (cleared-more i (recordOf l s .slots)))
-          (c .before .before .put-slot .ensures),
+          (wrote-then (λ r. withSlot r i noSlot) (head .loop .inv .2) (b .pre)
+          (λ h. put-slot (head .loop .t) (b .args .s) h i noSlot (turn wrote .loop-test .taken) (omega arith)))
+          (ap (withSlots (was b)) (cleared-more i (was b .slots)))
+          (wrote .put-slot .ensures),
     )
 
 same-length : tie.Need-same-length Inv-loop μ-loop
@@ -61,13 +73,14 @@ same-length c = search needs
 
 returns : tie.Need-returns Inv-loop μ-loop
 returns c =
-    let l = c .before .before .before .args .t .now in
-    let s = c .before .before .before .args .s in
-    let e : c .before .loop .i ≡ 8 = omega arith in
+    let head = c .before in
+    let b = start head in
+    let all : head .loop .i ≡ 8 = omega arith in
+    let made : cleared (head .loop .i) (was b .slots) ≡ cleared 8 (was b .slots) =
+    ap (λ (i : ℕ). cleared i (was b .slots)) all in
     became-by
-    (c .before .loop .inv .2)
-    (ap (withSlots (recordOf l s))
-    (ap (λ (i : ℕ). cleared i (recordOf l s .slots)) e ∙ cleared-all (recordOf l s .slots) (slots-length l s)))
+    (head .loop .inv .2)
+    (ap (withSlots (was b)) (made ∙ cleared-all (was b .slots) (slots-length (b .args .t .now) (b .args .s))))
     refl
 
 pub clear-slots-spec : {M : Type 1} → statement M

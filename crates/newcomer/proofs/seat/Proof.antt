@@ -1,31 +1,111 @@
--- `newcomer::seat` meets its contract: the fields that a newcomer's record starts with are written one after
--- another. Assumes nothing.
-use Prim.Native.Nat.{_+_, _*_, _≤_}
+-- `newcomer::seat` meets its contract: the fields that a newcomer's record starts with are written one after another.
+-- Assumes nothing.
 use mathlib.Core.Path.{refl}
-use lib.ListN.{length}
-use Rattle.table.specs.Record.{recordOf}
-use Rattle.table.specs.Put.{withTimestamp, withRadius, withParent, withCount}
-use Rattle.table.specs.Laws.{Became, put-timestamp, put-radius, put-parent, put-count, became-by, then-with}
-use Rattle.newcomer.specs.Newcomer.{fresh, slotless}
 use native.Mathlib.Omega.{arith}
 use borrow.Author.Needs.{needs}
+use Rattle.table.specs.Record.{Record, recordOf}
+use Rattle.table.specs.Put.{withTimestamp, withRadius, withParent, withCount}
+use Rattle.table.specs.Stands.{stands-same}
+use Rattle.table.specs.Laws.{Became, put-timestamp, put-radius, put-parent, put-count, became-by, then-with}
+use Rattle.newcomer.specs.Newcomer.{fresh, slotless}
+use Rattle.newcomer.proofs.Writes.{wrote-then}
 use Rattle.newcomer.proofs.seat.Statement.{statement}
 use Rattle.newcomer.proofs.seat.Tie as tie
+
+-- ---- stations: where each field is written
+
+abbrev start : tie.After-put-timestamp → tie.Start
+start c = c .before .before .before
+
+abbrev timed : tie.After-put-radius → tie.After-put-timestamp
+timed c = c .before .before .before .before
+
+abbrev levelled : tie.After-put-parent → tie.After-put-radius
+levelled c = c .before .before .before .before
+
+abbrev hung : tie.After-put-count → tie.After-put-parent
+hung c = c .before .before .before .before
+
+abbrev emptied : tie.After-clear-slots → tie.After-put-count
+emptied c = c .before .before .before .before
+
+-- ---- the record after each write
+
+abbrev was : tie.Start → Record
+was b = recordOf (b .args .t .now) (b .args .s)
+
+abbrev after-time : tie.Start → Record
+after-time b = withTimestamp (was b) (b .args .timestamp)
+
+abbrev after-parent : tie.Start → Record
+after-parent b = withParent (withRadius (after-time b) 0) (b .args .parent)
+
+timestamp-put : (c : tie.After-put-timestamp) →
+    let b = start c in
+    Became (b .args .t .now) (b .args .s) (after-time b) (c .put-timestamp .last .0)
+timestamp-put c =
+    let b = start c in
+    became-by
+    (put-timestamp (b .args .t .now) (b .args .s) (b .pre) (b .args .timestamp) (omega (arith, b .fits .timestamp)))
+    refl
+    (c .put-timestamp .ensures)
+
+radius-put : (c : tie.After-put-radius) →
+    let b = start (timed c) in
+    Became (b .args .t .now) (b .args .s) (withRadius (after-time b) 0) (c .put-radius .last .0)
+radius-put c =
+    let b = start (timed c) in
+    let m = timed c .put-timestamp .last .0 in
+    wrote-then (λ r. withRadius r 0) (timestamp-put (timed c)) (b .pre)
+    (λ h. became-by (put-radius m (b .args .s) h 0 (omega arith)) refl (c .put-radius .ensures))
+
+parent-put : (c : tie.After-put-parent) →
+    let b = start (timed (levelled c)) in
+    Became (b .args .t .now) (b .args .s) (after-parent b) (c .put-parent .last .0)
+parent-put c =
+    let b = start (timed (levelled c)) in
+    let m = levelled c .put-radius .last .0 in
+    let p = b .args .parent in
+    wrote-then (λ r. withParent r p) (radius-put (levelled c)) (b .pre)
+    (λ h. became-by (put-parent m (b .args .s) h p (omega (arith, b .fits .parent))) refl (c .put-parent .ensures))
+
+count-put : (c : tie.After-put-count) →
+    let b = start (timed (levelled (hung c))) in
+    Became (b .args .t .now) (b .args .s) (withCount (after-parent b) 0) (c .put-count .last .0)
+count-put c =
+    let b = start (timed (levelled (hung c))) in
+    let m = hung c .put-parent .last .0 in
+    wrote-then (λ r. withCount r 0) (parent-put (hung c)) (b .pre)
+    (λ h. became-by (put-count m (b .args .s) h 0 (omega arith)) refl (c .put-count .ensures))
+
+-- ---- needs
 
 put-timestamp-requires : tie.Need-put-timestamp-requires
 put-timestamp-requires c κs = search needs
 
 put-radius-requires : tie.Need-put-radius-requires
-put-radius-requires c κs = search needs
+put-radius-requires c κs =
+    let last = c .before .before .before in
+    let b = start last in
+    stands-same (b .args .t .now) (last .put-timestamp .last .0) (timestamp-put last .same-length) (b .args .s) (b .pre)
 
 put-parent-requires : tie.Need-put-parent-requires
-put-parent-requires c κs = search needs
+put-parent-requires c κs =
+    let last = c .before .before .before in
+    let b = start (timed last) in
+    stands-same (b .args .t .now) (last .put-radius .last .0) (radius-put last .same-length) (b .args .s) (b .pre)
 
 put-count-requires : tie.Need-put-count-requires
-put-count-requires c κs = search needs
+put-count-requires c κs =
+    let last = c .before .before .before in
+    let b = start (timed (levelled last)) in
+    stands-same (b .args .t .now) (last .put-parent .last .0) (parent-put last .same-length) (b .args .s) (b .pre)
 
 clear-slots-requires : tie.Need-clear-slots-requires
-clear-slots-requires c κs = search needs
+clear-slots-requires c κs =
+    let last = c .before .before .before in
+    let b = start (timed (levelled (hung last))) in
+    stands-same (b .args .t .now) (last .put-count .last .0) (count-put last .same-length) (b .args .s) (b .pre)
 
 same-length : tie.Need-same-length
 same-length c = search needs
@@ -33,44 +113,8 @@ same-length c = search needs
 returns : tie.Need-returns
 unfolding fresh
 returns c =
-    let c1 = c .before .before .before .before in
-    let c2 = c1 .before .before .before .before in
-    let c3 = c2 .before .before .before .before in
-    let c4 = c3 .before .before .before .before in
-    let start = c4 .before .before .before .before .before in
-    let l = start .args .t .now in
-    let s = start .args .s in
-    let timestamp = start .args .timestamp in
-    let parent = start .args .parent in
-    let first = c4 .before .before .put-timestamp in
-    let second = c3 .before .before .put-radius in
-    let third = c2 .before .before .put-parent in
-    let fourth = c1 .before .before .put-count in
-    let l1 = first .last .0 in
-    let l2 = second .last .0 in
-    let l3 = third .last .0 in
-    let l4 = fourth .last .0 in
-    let one : Became l s (withTimestamp (recordOf l s) timestamp) l1 =
-    became-by
-    (put-timestamp l s (start .pre) timestamp (omega (arith, start .fits .timestamp)))
-    refl
-    (first .ensures) in
-    let in1 : s * 64 + 64 ≤ length l1 = omega (arith, one .same-length, start .pre) in
-    let two : Became l1 s (withRadius (recordOf l1 s) 0) l2 =
-    became-by (put-radius l1 s in1 0 (omega arith)) refl (second .ensures) in
-    let in2 : s * 64 + 64 ≤ length l2 = omega (arith, two .same-length) in
-    let three : Became l2 s (withParent (recordOf l2 s) parent) l3 =
-    became-by (put-parent l2 s in2 parent (omega (arith, start .fits .parent))) refl (third .ensures) in
-    let in3 : s * 64 + 64 ≤ length l3 = omega (arith, three .same-length) in
-    let four : Became l3 s (withCount (recordOf l3 s) 0) l4 =
-    became-by (put-count l3 s in3 0 (omega arith)) refl (fourth .ensures) in
-    then-with
-    slotless
-    (then-with
-    (λ r. withCount r 0)
-    (then-with (λ r. withParent r parent) (then-with (λ r. withRadius r 0) one two) three)
-    four)
-    (c .before .before .clear-slots .ensures)
+    let last = c .before .before in
+    then-with slotless (count-put (emptied last)) (last .clear-slots .ensures)
 
 pub seat-spec : {M : Type 1} → statement M
 seat-spec =

@@ -1,9 +1,7 @@
--- The walk of a newcomer, as the descent's loop takes it: what it asks of a table, and what is left of it from a slot.
-use Prim.Native.Nat.{ℕ, _+_, _*_, _%_, _≤_, _<_}
-use mathlib.Core.Path.{_≡_}
+-- Loop: the walk of a newcomer as the descent takes it, what it leaves and what is left of it from a slot on.
+use Prim.Native.Nat.{ℕ, _+_}
 use mathlib.Core.List.{List}
-use lib.ListN.{length}
-use Rattle.table.specs.Record.{Record, recordOf, slot}
+use Rattle.table.specs.Record.{Record}
 use Rattle.table.specs.Table.{at}
 use Rattle.tree.specs.View.{childCounts}
 use Rattle.tree.specs.Insert.{path, last}
@@ -23,13 +21,13 @@ descent rows slot count = record { rows = rows; slot = slot; count = count }
 
 module _ (d : List ℕ → List ℕ → ℕ) (x : List ℕ) (arity : ℕ) where
   -- the records visited from slot a on; left: the depth left
-  abbrev pub visited : List Record → ℕ → ℕ → List ℕ
-  visited rows left a = path d (viewOf (at rows)) x arity left a
+  abbrev pub walkFrom : List Record → ℕ → ℕ → List ℕ
+  walkFrom rows left a = path d (viewOf (at rows)) x arity left a
 
   -- a walk that has come to slot a with `count` distances worked out
   unfoldable pub descended : List Record → ℕ → ℕ → ℕ → Descended
   descended rows left a count =
       descent
-      (raisedAlong d x (visited rows left a) rows)
-      (last a (visited rows left a))
-      (count + childCounts (viewOf (at rows)) (visited rows left a))
+      (raisedAlong d x (walkFrom rows left a) rows)
+      (last a (walkFrom rows left a))
+      (count + childCounts (viewOf (at rows)) (walkFrom rows left a))

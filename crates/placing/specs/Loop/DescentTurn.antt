@@ -1,4 +1,4 @@
--- One turn of the descent's loop: the scan for the nearest child (`scanned`), and the walk's next record or its end
+-- Loop: one turn of the descent, the scan for the nearest child (`scanned`), and the walk's next record or its end
 -- (`descended-turn`). Assumes nothing.
 use Prim.Native.Nat.{ℕ, zero, suc, _+_, _≤_, _<_}
 use mathlib.Core.Bool.{Bool, true, false, _&&_, _||_, not, cond}

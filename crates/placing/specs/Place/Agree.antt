@@ -1,6 +1,7 @@
--- Records that wait for their turn change nothing: two rows that agree outside slots that nothing links to are walked alike,
--- and a newcomer hung in both leaves them agreeing again, in its own slot too (`hanging-agree`, `hanging-count`).
--- Insert and delete write a newcomer's card into its slot before they hang it; the definitions have the slot free. Assumes nothing.
+-- Records that wait for their turn change nothing: two rows that agree outside slots that nothing links to are walked
+-- alike, and a newcomer hung in both leaves them agreeing again, in its own slot too (`hanging-agree`,
+-- `hanging-count`). Insert and delete write a newcomer's card into its slot before they hang it; the definitions have
+-- the slot free. Assumes nothing.
 use Prim.Native.Nat.{ℕ, suc, _<_, _≤_}
 use mathlib.Core.Path.{_≡_, refl, sym, ap, _∙_}
 use mathlib.Core.List.{List, [], _∷_, List·Memᴰ·head as first, List·Memᴰ·tail as later}
@@ -33,7 +34,10 @@ pub record Unlinked (waits : ℕ → Type 0) (D : List Record) (root : ℕ) : Ty
 -- ---- one record written in both rows
 
 pub set-agree :
-    {waits : ℕ → Type 0} {C D : List Record} (b : ℕ) (r q : Record) → r ≡ q → Agree waits C D → Agree waits (set C b r) (set D b q)
+    {waits : ℕ → Type 0} {C D : List Record} (b : ℕ) (r q : Record)
+    → r ≡ q
+    → Agree waits C D
+    → Agree waits (set C b r) (set D b q)
 set-agree {waits} {C} {D} b r q e h =
     record {
       long = length-set C b r ∙ h .long ∙ sym (length-set D b q);
@@ -71,7 +75,8 @@ module _ (d : List ℕ → List ℕ → ℕ) (x : List ℕ) (waits : ℕ → Typ
 module _ (d : List ℕ → List ℕ → ℕ) (arity s : ℕ) (x : Newcomer) (t depth root : ℕ) (waits : ℕ → Type 0)
     (C D : List Record) (h : Agree waits C D) (u : Unlinked waits D root)
   where
-    pub walked : path d (viewOf (at C)) (x .readings) arity depth root ≡ path d (viewOf (at D)) (x .readings) arity depth root
+    pub walked :
+        path d (viewOf (at C)) (x .readings) arity depth root ≡ path d (viewOf (at D)) (x .readings) arity depth root
     walked =
         path-same d (viewOf (at D)) (viewOf (at C)) (x .readings) arity (λ a. waits a → ⊥) (u .children-stay)
         (λ a n. ap children (h .same a n))
@@ -99,7 +104,9 @@ module _ (d : List ℕ → List ℕ → ℕ) (arity s : ℕ) (x : Newcomer) (t d
     pub hanging-agree :
         s < length D
         → (depth-some : 0 < depth)
-        → Agree (λ a. waits a × (a ≡ s → ⊥)) (hanging d arity s x C t depth root .rows) (hanging d arity s x D t depth root .rows)
+        → Agree (λ a. waits a × (a ≡ s → ⊥))
+        (hanging d arity s x C t depth root .rows)
+        (hanging d arity s x D t depth root .rows)
     unfolding hanging hangingFrom attach
     hanging-agree in-range some =
         let p = path d (viewOf (at D)) (x .readings) arity depth root in

@@ -27,7 +27,8 @@ use Rattle.view.specs.Formed.{count-fits, used-within, Fields, formed-view, for
 use Rattle.placing.specs.Place.{hangingFrom}
 use Rattle.newcomer.specs.Newcomer.{Newcomer, fresh, adopting}
 use Rattle.placing.specs.Place.Row.{Kept, Still, along-other}
-use Rattle.placing.specs.Place.Hanging.{high, after, after-length, high-still, after-new, after-on, after-other, after-kept, hanging-inserted}
+use Rattle.placing.specs.Place.Hanging.{high, after, after-length, high-still, hanging-inserted}
+use Rattle.placing.specs.Place.Hanging.{after-new, after-on, after-other, after-kept}
 use Rattle.placing.specs.Place.Room.{attach-room}
 use Rattle.placing.specs.Place.Settled.{Ready, Settled, not-new}
 use Rattle.placing.specs.Place.Root.{fresh-filled}
@@ -172,7 +173,8 @@ module _ (d : List ℕ → List ℕ → ℕ) (arity : ℕ) {n s : ℕ} {x : Newc
           let g′ : P (adopting s (high d arity s x rows t on walk on)) = rw e at (g e) in
           rw (e, q) g′
       | no no′ ↦
-          let q = after-other d arity s x rows t on walk slot-in (within on on-used) (not-new ready on on-used) a ns no′ in
+          let other = after-other d arity s x rows t on walk slot-in (within on on-used) (not-new ready on on-used) in
+          let q = other a ns no′ in
           rw q (h ns no′)
     ]
   ]

@@ -1,5 +1,5 @@
--- What a newcomer's placing leaves, as one statement (`Settled`) for both cases of the rule, and what follows from it of
--- the used slots, their number, the timestamps and the kinds. Assumes nothing.
+-- What a newcomer's placing leaves, as one statement (`Settled`) for both cases of the rule, and what follows from it
+-- of the used slots, their number, the timestamps and the kinds. Assumes nothing.
 use Prim.Native.Nat.{ℕ, suc, _+_, _≤_, _<_}
 use mathlib.Core.Path.{_≡_, sym, ap, _∙_}
 use mathlib.Core.Bool.{true}

@@ -1,71 +1,61 @@
--- `insert::call::insert` meets its contract: the call ends refused by the first tests, refused by the later ones, or
+-- `insert::call::insert` meets its contract: the call ends refused by the admission, refused by its own tests, or
 -- placed. Assumes nothing.
 use Prim.Native.Nat.{ℕ}
 use mathlib.Core.Path.{_≡_, sym, _∙_}
 use native.Mathlib.Omega.{arith}
 use borrow.Author.Needs.{needs}
-use lib.ListN.{length}
 use Rattle.number.specs.Frame.{Bytes}
-use Rattle.table.specs.Size.{whole}
-use Rattle.refusals.specs.Refusal.{done}
+use Rattle.table.specs.Stands.{right-are}
+use Rattle.refusals.specs.Refusal.{firstOf, done}
+use Rattle.admission.specs.Admission.{admissionTests, admitted-readable}
 use Rattle.insert.specs.Insert.{refusalOf}
-use Rattle.insert.specs.Refusals.{earlyOf, lateOf, early-passed, refusal-early, refusal-late}
+use Rattle.insert.specs.Groups.{refusal-first, refusal-own}
 use Rattle.insert.specs.Accepted.{accepted-signature}
-use Rattle.insert.proofs.Calling.{ends-refused, late-found, found-placeable, ends-placed}
+use Rattle.insert.proofs.Calling.{ends-refused, found-placeable, ends-placed}
 use Rattle.insert.proofs.call.insert.Statement.{statement}
 use Rattle.insert.proofs.call.insert.Tie as tie
 
--- ---- the refusals of a call that starts so
+-- ---- stations: where the table is admitted, where insert's own tests are made, and where it is placed
+
+abbrev start : tie.After-admit → tie.Start
+start c = c .before .before .before .before
+
+abbrev judged : tie.Else1 → tie.After-admit
+judged c = c .before .before
+
+abbrev passed : tie.After-own-refusal → tie.Else1
+passed c = c .before .before .before
+
+abbrev from : tie.After-own-refusal → tie.Start
+from c = start (judged (passed c))
+
+abbrev free : tie.After-place → tie.Else2
+free c = c .before .before .before
+
+-- ---- what the tests show
 
 abbrev refusal : tie.Start → ℕ
 refusal c = let a = c .args in refusalOf (a .t .now) (a .card) (a .kind) (a .arity) (a .signature .now)
 
-abbrev first : tie.Start → ℕ
-first c = let a = c .args in earlyOf (a .t .now) (a .card) (a .kind) (a .arity) (a .signature .now)
+admitted : (c : tie.Else1) → firstOf (admissionTests (start (judged c) .args .t .now)) ≡ done
+admitted c = sym (judged c .admit .ensures .refusal-is) ∙ c .if1 .left
 
-abbrev second : tie.Start → ℕ
-second c = let a = c .args in lateOf (a .t .now) (a .card) (a .kind) (a .arity) (a .signature .now)
-
--- where a place's call started
-abbrev from-early : tie.After-early-refusal → tie.Start
-from-early c = c .before .before .before .before
-
-abbrev from-late : tie.After-late-refusal → tie.Start
-from-late c = from-early (c .before .before .before .before .before .before)
-
--- ---- what the tests show
-
-passed-first : (c : tie.Else1) → first (from-early (c .before)) ≡ done
-passed-first c = sym (c .before .early-refusal .ensures) ∙ c .if1 .left
-
-later : (c : tie.After-late-refusal) → second (from-late c) ≡ c .late-refusal .result
-later c =
-    let a = from-late c .args in
-    let slot = c .before .slot-of-card in
-    let found = c .before .before .before .survey .ensures in
-    sym
-    (c .late-refusal .ensures
-    ∙ late-found (a .t .now) (a .card) (a .kind) (a .arity) (a .signature .now) found (slot .result) (slot .ensures))
-
-refusal-then : (c : tie.After-late-refusal) → refusal (from-late c) ≡ c .late-refusal .result
+refusal-then : (c : tie.After-own-refusal) → refusal (from c) ≡ c .own-refusal .result
 refusal-then c =
-    let a = from-late c .args in
-    refusal-late (a .t .now) (a .card) (a .kind) (a .arity) (a .signature .now)
-    (passed-first (c .before .before .before .before .before))
-    ∙ later c
+    let a = from c .args in
+    refusal-own (a .t .now) (a .card) (a .kind) (a .arity) (a .signature .now) (admitted (passed c))
+    ∙ sym (c .own-refusal .ensures)
 
-accepted : (c : tie.Else2) → refusal (from-late (c .before)) ≡ done
+accepted : (c : tie.Else2) → refusal (from (c .before)) ≡ done
 accepted c = refusal-then (c .before) ∙ c .if2 .left
 
-signature-bytes : (c : tie.After-late-refusal) → Bytes (from-late c .args .signature .now)
-signature-bytes c i =
-    let tested = c .before .before .before .before .before .before in
-    tested .before .before .shared-slice-known .given i .fits
+signature-bytes : (c : tie.After-admit) → Bytes (start c .args .signature .now)
+signature-bytes c i = c .before .before .shared-slice-known .given i .fits
 
--- ---- the needs
+-- ---- needs
 
-early-refusal-requires : tie.Need-early-refusal-requires
-early-refusal-requires c κs = search needs
+admit-requires : tie.Need-admit-requires
+admit-requires c κs = search needs
 
 refused-requires : tie.Need-refused-requires
 refused-requires c κs = search needs
@@ -75,30 +65,25 @@ same-length c = search needs
 
 returns : tie.Need-returns
 returns c =
-    let tested = c .before .before in
-    let a = from-early tested .args in
-    let e = tested .early-refusal .ensures in
+    let tested = c .before .before .before in
+    let a = start tested .args in
+    let e = tested .admit .ensures .refusal-is in
     let ne = c .before .if1 .taken in
     let r = c .refused in
     ends-refused (a .t .now) (a .card) (a .kind) (a .arity) (a .signature .now)
-    (tested .early-refusal .result)
+    (tested .admit .result .refusal)
     (r .result .refusal)
     (r .result .count)
-    (refusal-early (a .t .now) (a .card) (a .kind) (a .arity) (a .signature .now) (λ z. ne (e ∙ z)) ∙ sym e)
+    (refusal-first (a .t .now) (a .card) (a .kind) (a .arity) (a .signature .now) (λ z. ne (e ∙ z)) ∙ sym e)
     ne
     (r .ensures .0)
     (r .ensures .1)
 
-survey-requires : tie.Need-survey-requires
-survey-requires c κs =
-    let a = from-early (c .before .before) .args in
-    whole (length (a .t .now)) (early-passed _ _ _ (passed-first (c .before)) .size-right) .0
-
-slot-of-card-requires : tie.Need-slot-of-card-requires
-slot-of-card-requires c κs = search needs
-
-late-refusal-requires : tie.Need-late-refusal-requires
-late-refusal-requires c κs = search needs
+own-refusal-requires : tie.Need-own-refusal-requires
+own-refusal-requires c κs =
+    let p = c .before .before in
+    let l = start (judged p) .args .t .now in
+    (right-are l (admitted-readable l (admitted p) .size), judged p .admit .ensures .answers (p .if1 .left))
 
 refused-requires-2 : tie.Need-refused-requires-2
 refused-requires-2 c κs = search needs
@@ -109,10 +94,10 @@ same-length-2 c = search needs
 returns-2 : tie.Need-returns-2
 returns-2 c =
     let tested = c .before .before in
-    let a = from-late tested .args in
+    let a = from tested .args in
     let r = c .refused2 in
     ends-refused (a .t .now) (a .card) (a .kind) (a .arity) (a .signature .now)
-    (tested .late-refusal .result)
+    (tested .own-refusal .result)
     (r .result .refusal)
     (r .result .count)
     (refusal-then tested)
@@ -122,18 +107,19 @@ returns-2 c =
 
 signature-at-requires : tie.Need-signature-at-requires
 signature-at-requires c κs =
-    let a = from-late (c .before .before) .args in
-    let none = accepted (c .before) in
-    omega (arith, accepted-signature (a .t .now) (a .card) (a .kind) (a .arity) (a .signature .now) none)
+    let e = c .before in
+    let a = from (e .before) .args in
+    omega (arith, accepted-signature (a .t .now) (a .card) (a .kind) (a .arity) (a .signature .now) (accepted e))
 
 place-requires : tie.Need-place-requires
 place-requires c κs =
-    let tested = c .before .before .before in
-    let a = from-late tested .args in
+    let e = c .before .before in
+    let p = passed (e .before) in
+    let a = start (judged p) .args in
     found-placeable (a .t .now) (a .card) (a .kind) (a .arity) (a .signature .now)
-    (accepted (c .before .before))
-    (tested .before .before .before .survey .ensures)
-    (signature-bytes tested)
+    (accepted e)
+    (judged p .admit .ensures .answers (p .if1 .left))
+    (signature-bytes (judged p))
     (c .signature-at .result .readings)
     (c .signature-at .ensures)
 
@@ -142,34 +128,34 @@ same-length-3 c = search needs
 
 returns-3 : tie.Need-returns-3
 returns-3 c =
-    let tested = c .before .before .before .before .before .before in
-    let a = from-late tested .args in
-    let x = c .before .before .before .signature-at in
-    let p = c .before .before .place in
-    let bytes : Bytes (p .last .0) = λ i. c .slice-known2 .given i .fits in
+    let end = c .before .before in
+    let x = end .before .signature-at in
+    let r = end .place in
+    let e = free end in
+    let p = passed (e .before) in
+    let a = start (judged p) .args in
+    let bytes : Bytes (r .last .0) = λ i. c .slice-known2 .given i .fits in
     ends-placed (a .t .now) (a .card) (a .kind) (a .arity) (a .signature .now)
-    (accepted (c .before .before .before .before .before))
-    (tested .before .before .before .survey .ensures)
-    (signature-bytes tested)
+    (accepted e)
+    (judged p .admit .ensures .answers (p .if1 .left))
+    (signature-bytes (judged p))
     (x .result .readings)
     (x .ensures)
-    (p .last .0)
-    (p .result)
+    (r .last .0)
+    (r .result)
     bytes
-    (p .kept .0)
-    (p .ensures)
+    (r .kept .0)
+    (r .ensures)
 
 pub insert-spec : {M : Type 1} → statement M
 insert-spec =
     tie.close
     (tie.spec
-    early-refusal-requires
+    admit-requires
     refused-requires
     same-length
     returns
-    survey-requires
-    slot-of-card-requires
-    late-refusal-requires
+    own-refusal-requires
     refused-requires-2
     same-length-2
     returns-2

@@ -3,24 +3,30 @@ use mathlib.Core.Path.{sym, _∙_}
 use Rattle.distance.specs.Signature.{word-of-pairs}
 use Rattle.table.specs.Record.{recordOf, slotsAt, placeOf}
 use Rattle.table.specs.Same.{slot-at}
+use Rattle.table.specs.Stands.{Stands}
 use native.Mathlib.Omega.{arith}
 use borrow.Author.Needs.{needs}
 use Rattle.table.proofs.read.four_slots.Statement.{statement}
 use Rattle.table.proofs.read.four_slots.Tie as tie
 
 mul-get-u64 : tie.Need-mul-get-u64
+unfolding Stands
 mul-get-u64 c = search needs
 
 add-get-u64 : tie.Need-add-get-u64
+unfolding Stands
 add-get-u64 c = search needs
 
 mul-get-u64-2 : tie.Need-mul-get-u64-2
+unfolding Stands
 mul-get-u64-2 c = search needs
 
 add-get-u64-2 : tie.Need-add-get-u64-2
+unfolding Stands
 add-get-u64-2 c = search needs
 
 get-u64-requires : tie.Need-get-u64-requires
+unfolding Stands
 get-u64-requires c κs = search needs
 
 returns : tie.Need-returns

@@ -8,6 +8,7 @@ use Rattle.number.specs.Frame.{Bytes}
 use Rattle.table.specs.Record.{placeOf}
 use Rattle.table.specs.Fields.{ZeroWords}
 use Rattle.table.specs.Same.{zero-words-free, free-zero-words}
+use Rattle.table.specs.Stands.{Stands}
 use native.Mathlib.Omega.{arith}
 use borrow.Author.Needs.{needs}
 use Rattle.table.proofs.read.is_free.Statement.{statement}
@@ -41,15 +42,19 @@ loop-holds : tie.Need-loop-holds Inv-loop μ-loop
 loop-holds c = (omega arith, λ k p. absurd (omega arith))
 
 mul-get-u64 : tie.Need-mul-get-u64 Inv-loop μ-loop
+unfolding Stands
 mul-get-u64 c = search needs
 
 mul-get-u64-2 : tie.Need-mul-get-u64-2 Inv-loop μ-loop
+unfolding Stands
 mul-get-u64-2 c = search needs
 
 add-get-u64 : tie.Need-add-get-u64 Inv-loop μ-loop
+unfolding Stands
 add-get-u64 c = search needs
 
 get-u64-requires : tie.Need-get-u64-requires Inv-loop μ-loop
+unfolding Stands
 get-u64-requires c κs = search needs
 
 returns : tie.Need-returns Inv-loop μ-loop

@@ -1,13 +1,16 @@
 -- `table::clear_record` meets its contract: all 64 bytes are made zero. Assumes nothing.
 use Rattle.table.specs.Put.{freed}
+use Rattle.table.specs.Stands.{Stands}
 use borrow.Author.Needs.{needs}
 use Rattle.table.proofs.write.clear_record.Statement.{statement}
 use Rattle.table.proofs.write.clear_record.Tie as tie
 
 mul-zero : tie.Need-mul-zero
+unfolding Stands
 mul-zero c = search needs
 
 zero-requires : tie.Need-zero-requires
+unfolding Stands
 zero-requires c κs = search needs
 
 same-length : tie.Need-same-length

@@ -1,13 +1,16 @@
 -- `table::put_card` meets its contract: the bytes written are those of the field. Assumes nothing.
 use Rattle.table.specs.Put.{putCard}
+use Rattle.table.specs.Stands.{Stands}
 use borrow.Author.Needs.{needs}
 use Rattle.table.proofs.write.put_card.Statement.{statement}
 use Rattle.table.proofs.write.put_card.Tie as tie
 
 mul-put-u32 : tie.Need-mul-put-u32
+unfolding Stands
 mul-put-u32 c = search needs
 
 put-u32-requires : tie.Need-put-u32-requires
+unfolding Stands
 put-u32-requires c κs = search needs
 
 same-length : tie.Need-same-length

@@ -1,16 +1,20 @@
 -- `table::put_kind` meets its contract: the bytes written are those of the field. Assumes nothing.
 use Rattle.table.specs.Put.{putKind}
+use Rattle.table.specs.Stands.{Stands}
 use borrow.Author.Needs.{needs}
 use Rattle.table.proofs.write.put_kind.Statement.{statement}
 use Rattle.table.proofs.write.put_kind.Tie as tie
 
 mul-t : tie.Need-mul-t
+unfolding Stands
 mul-t c = search needs
 
 add-t : tie.Need-add-t
+unfolding Stands
 add-t c = search needs
 
 slice-write-t : tie.Need-slice-write-t
+unfolding Stands
 slice-write-t c = search needs
 
 same-length : tie.Need-same-length

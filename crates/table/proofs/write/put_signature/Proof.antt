@@ -5,6 +5,7 @@ use lib.ListN.{length}
 use Rattle.table.specs.Record.{signatureAt, placeOf}
 use Rattle.table.specs.Put.{putReadings, putSignature}
 use Rattle.table.specs.Run.{readings-more}
+use Rattle.table.specs.Stands.{Stands}
 use native.Mathlib.Omega.{arith}
 use borrow.Author.Needs.{needs}
 use Rattle.table.proofs.write.put_signature.Statement.{statement}
@@ -32,24 +33,30 @@ unfolding putReadings
 loop-holds c = search needs
 
 mul-put-u16 : tie.Need-mul-put-u16 Inv-loop μ-loop
+unfolding Stands
 mul-put-u16 c = search needs
 
 add-put-u16 : tie.Need-add-put-u16 Inv-loop μ-loop
+unfolding Stands
 add-put-u16 c = search needs
 
 mul-put-u16-2 : tie.Need-mul-put-u16-2 Inv-loop μ-loop
+unfolding Stands
 mul-put-u16-2 c = search needs
 
 add-put-u16-2 : tie.Need-add-put-u16-2 Inv-loop μ-loop
+unfolding Stands
 add-put-u16-2 c = search needs
 
 mul-put-u16-3 : tie.Need-mul-put-u16-3 Inv-loop μ-loop
+unfolding Stands
 mul-put-u16-3 c = search needs
 
 element-copy-out-put-u16 : tie.Need-element-copy-out-put-u16 Inv-loop μ-loop
 element-copy-out-put-u16 c = search needs
 
 put-u16-requires : tie.Need-put-u16-requires Inv-loop μ-loop
+unfolding Stands
 put-u16-requires c κs = search needs
 
 add-k : tie.Need-add-k Inv-loop μ-loop

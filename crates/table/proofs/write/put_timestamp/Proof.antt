@@ -1,16 +1,20 @@
 -- `table::put_timestamp` meets its contract: the bytes written are those of the field. Assumes nothing.
 use Rattle.table.specs.Put.{putTimestamp}
+use Rattle.table.specs.Stands.{Stands}
 use borrow.Author.Needs.{needs}
 use Rattle.table.proofs.write.put_timestamp.Statement.{statement}
 use Rattle.table.proofs.write.put_timestamp.Tie as tie
 
 mul-put-u32 : tie.Need-mul-put-u32
+unfolding Stands
 mul-put-u32 c = search needs
 
 add-put-u32 : tie.Need-add-put-u32
+unfolding Stands
 add-put-u32 c = search needs
 
 put-u32-requires : tie.Need-put-u32-requires
+unfolding Stands
 put-u32-requires c κs = search needs
 
 same-length : tie.Need-same-length

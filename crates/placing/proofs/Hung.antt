@@ -1,13 +1,14 @@
 -- A walk, a host with one child more and a seated newcomer make what the definition hangs (`hung`). The key idea:
 -- neither a raised radius nor a further child changes the newcomer's card, kind and signature, even if its slot is
 -- visited. Assumes nothing.
-use Prim.Native.Nat.{ℕ, _%_, _<_}
+use Prim.Native.Nat.{ℕ, _<_}
 use mathlib.Core.Path.{_≡_, refl, sym, ap, ap₂, _∙_}
 use mathlib.Core.List.{List, _∷_, List·Memᴰ·head as first, List·Memᴰ·tail as later}
 use native.Mathlib.Omega.{arith}
 use native.Mathlib.Decide.{ℕ-discrete}
 use lib.ListN.{length, set}
 use Rattle.distance.specs.Kind.{apart}
+use Rattle.refusals.specs.Limits.{mostRecords, mostChildren}
 use Rattle.table.specs.Record.{Record, recordOf, children}
 use Rattle.table.specs.Table.{recordsOf, at}
 use Rattle.table.specs.Same.{slots-length}
@@ -24,8 +25,16 @@ use Rattle.newcomer.specs.Newcomer.{brought, brought-is, Newcomer, fresh, adopt
 use Rattle.placing.specs.Place.{Placed, raisedAlong, hangingFrom, hanging}
 use Rattle.placing.specs.Place.Row.{Kept, Still, still-self, kept-adopting, along-still}
 use Rattle.placing.specs.Loop.Descent.{Descended, descent, descended}
-use Rattle.table.specs.Stands.{Stands}
+use Rattle.table.specs.Stands.{Stands, stands-same, in-stands, whole-same}
 use Rattle.placing.specs.Hang.{Hangable, hostOf}
+
+-- the walk of the newcomer in slot s of the table l is over: at slot `on`, with `count` distances worked out, and the
+-- bytes m
+pub record Walked (l : List ℕ) (kind arity s root depth : ℕ) (m : List ℕ) (on count : ℕ) : Type 0 where
+  pub same-length : length m ≡ length l
+  pub walk :
+      descent (recordsOf m) on count
+      ≡ descended (apart kind) (at (recordsOf l) s .readings) arity (recordsOf l) depth root 1
 
 module _ {l : List ℕ} {kind arity s root depth : ℕ} (ok : Hangable l kind arity s root depth) where
   abbrev rows : List Record
@@ -45,8 +54,8 @@ module _ {l : List ℕ} {kind arity s root depth : ℕ} (ok : Hangable l kind ar
       let z = children-at (recordOf l a) (omega (arith, few, slots-length l a)) b (rw e at i) in
       rw (z .2) at (ok .walkable .stand a (z .0) h (z .1))
 
-  pub host-stands : Stands l (hostOf rows kind arity s root depth)
-  host-stands = stands (last root walk) (last-∈ root walk)
+  end-stands : Stands l (hostOf rows kind arity s root depth)
+  end-stands = stands (last root walk) (last-∈ root walk)
     where
       stands : (b : ℕ) → b ∈ (root ∷ walk) → Stands l b
       stands b (first e) = rw e (ok .root-stands)
@@ -60,45 +69,67 @@ module _ {l : List ℕ} {kind arity s root depth : ℕ} (ok : Hangable l kind ar
           (ok .root-stands)
           i
 
-  -- the walk as the code takes it, of the signature that it has read
-  pub walk-read :
-      (y : List ℕ) (p : Descended)
-      → y ≡ recordOf l s .readings
-      → p ≡ descended (apart kind) y arity rows depth root 1
-      → p ≡ descended (apart kind) x arity rows depth root 1
-  walk-read y p e walked =
-      walked
-      ∙ ap
-      (λ (z : List ℕ). descended (apart kind) z arity rows depth root 1)
-      (e ∙ ap (λ (r : Record). r .readings) (sym (records-at l (ok .walkable .whole) s)))
+  -- a slot's number fits two bytes
+  few-slots : (a : ℕ) → Stands l a → a < mostRecords
+  few-slots a h = omega (arith, in-stands l a h, ok .size)
 
-  module _ (m : List ℕ) (on count : ℕ) (same : length m ≡ length l)
-      (walked : descent (recordsOf m) on count ≡ descended (apart kind) x arity rows depth root 1) where
+  pub slot-few : s < mostRecords
+  slot-few = few-slots s (ok .slot-stands)
+
+  -- the walk as the code takes it, of the signature y that it has read
+  pub walk-over :
+      {m : List ℕ} {on count : ℕ} (y : List ℕ)
+      → length m ≡ length l
+      → y ≡ recordOf l s .readings
+      → descent (recordsOf m) on count ≡ descended (apart kind) y arity rows depth root 1
+      → Walked l kind arity s root depth m on count
+  walk-over y same e walked =
+      let read : y ≡ x = e ∙ ap (λ (r : Record). r .readings) (sym (records-at l (ok .walkable .whole) s)) in
+      record {
+        same-length = same;
+        walk = walked ∙ ap (λ (z : List ℕ). descended (apart kind) z arity rows depth root 1) read;
+      }
+
+  module _ {m : List ℕ} {on count : ℕ} (over : Walked l kind arity s root depth m on count) where
     abbrev high : List Record
     high = raisedAlong (apart kind) x walk rows
 
     rows-high : recordsOf m ≡ high
     unfolding descended
-    rows-high = ap (λ (p : Descended). p .rows) walked
+    rows-high = ap (λ (p : Descended). p .rows) (over .walk)
 
-    pub on-host : on ≡ hostOf rows kind arity s root depth
+    on-host : on ≡ hostOf rows kind arity s root depth
     unfolding descended
-    on-host = ap (λ (p : Descended). p .slot) walked
+    on-host = ap (λ (p : Descended). p .slot) (over .walk)
+
+    on-stands : Stands l on
+    on-stands = rw on-host end-stands
+
+    pub host-few : on < mostRecords
+    host-few = few-slots on on-stands
+
+    pub host-stands : Stands m on
+    host-stands = stands-same l m (over .same-length) on on-stands
 
     counted : count ≡ distanceCount (viewOf (at rows)) walk
     unfolding descended distanceCount
-    counted = ap (λ (p : Descended). p .count) walked
+    counted = ap (λ (p : Descended). p .count) (over .walk)
 
     record-high : (a : ℕ) → recordOf m a ≡ at high a
     record-high a =
-        sym (records-at m (ap (λ (k : ℕ). k % 64) same ∙ ok .walkable .whole) a)
+        sym (records-at m (whole-same l m (over .same-length) (ok .walkable .whole)) a)
         ∙ ap (λ (rs : List Record). at rs a) rows-high
 
     still : (a : ℕ) → Still (at rows a) (recordOf m a)
     still a = rw (record-high a) (along-still (apart kind) x walk rows (at rows a) a (still-self (at rows a)))
 
-    pub host-room : recordOf m on .count < 8
+    pub host-room : recordOf m on .count < mostChildren
     host-room = omega (arith, still on .count, ok .room, ap (λ (i : ℕ). at rows i .count) on-host)
+
+    -- the newcomer's slot stands still, where the host has its child
+    pub slot-still : {k : List ℕ} → Became m on (adopting s (recordOf m on)) k → Stands k s
+    slot-still {k} adopted =
+        stands-same m k (adopted .same-length) s (stands-same l m (over .same-length) s (ok .slot-stands))
 
     module _ {k j : List ℕ} (timestamp : ℕ) (adopted : Became m on (adopting s (recordOf m on)) k)
         (seated : Became k s (fresh (brought (recordOf k s)) timestamp on) j) where
