@@ -1,8 +1,8 @@
 -- A history: calls on one table that starts cleared, accepted or refused, in any order, with any arguments.
 -- The stored cards are read from the calls alone: "each with the kind and signature that its accepted insert brought,
 -- until its accepted delete or a clear".
--- A further call that reads is named in `Reading` and says in `tellsOf` what it reports, no more. One that changes the
--- table is named in `Change`: its arguments' types, its outcome, and what is then stored.
+-- A further call that reads is named in `Reading` and says in `tellsOf` what it reports, no more. One that writes is
+-- named in `Writing`: its arguments' types, its outcome, and what is then stored.
 use Prim.Native.Nat.{ℕ, _^_, _<_}
 use mathlib.Core.List.{List, [], _∷_}
 use lib.Dec.{eqb}
@@ -22,29 +22,29 @@ use Rattle.soundness.specs.Soundness.{checkOf}
 
 -- ---- the calls; a signature and a list are what the caller lends
 
--- those that change the table, if they are accepted
-pub data Change : Type 0 where
-  clear : Change
-  insert : (card kind arity : ℕ) (signature : List ℕ) → Change
-  delete : (card arity : ℕ) → Change
+-- those that write: they change the table, if they are accepted
+pub data Writing : Type 0 where
+  clear : Writing
+  insert : (card kind arity : ℕ) (signature : List ℕ) → Writing
+  delete : (card arity : ℕ) → Writing
 
--- those that read it: table and stored cards stay, whatever they are asked
+-- those that read: table and stored cards stay, whatever they are asked
 pub data Reading : Type 0 where
   search : (kind : ℕ) (signature : List ℕ) (radius : ℕ) (list : List ℕ) → Reading
   check : Reading
 
 pub data Call : Type 0 where
-  changes : Change → Call
+  writes : Writing → Call
   reads : Reading → Call
 
--- a change's arguments are numbers of their types: a card is a 32-bit number, a signature is bytes
-abbrev pub TypedChange : Change → Type 0
-TypedChange clear = Unit {0}
-TypedChange (insert card kind arity signature) = (card < 2 ^ 32) × Bytes signature
-TypedChange (delete card arity) = Unit {0}
+-- the arguments of a call that writes are numbers of their types: a card is a 32-bit number, a signature is bytes
+abbrev pub TypedWriting : Writing → Type 0
+TypedWriting clear = Unit {0}
+TypedWriting (insert card kind arity signature) = (card < 2 ^ 32) × Bytes signature
+TypedWriting (delete card arity) = Unit {0}
 
 abbrev pub Typed : Call → Type 0
-Typed (changes c) = TypedChange c
+Typed (writes c) = TypedWriting c
 Typed (reads r) = Unit {0}
 
 -- ---- table and stored cards
@@ -63,25 +63,25 @@ unfoldable pub without : ℕ → List Newcomer → List Newcomer
 without card [] = []
 without card (x ∷ xs) = pick (eqb (x .card) card) (without card xs) (x ∷ without card xs)
 
--- what a change leaves of the table's bytes l, with its refusal and its distance count
-unfoldable pub changeOf : Change → List ℕ → Outcome
-changeOf clear l = record { refusal = clearOf l .refusal; count = 0; table = clearOf l .table }
-changeOf (insert card kind arity signature) l = insertOf l card kind arity signature
-changeOf (delete card arity) l = deleteOf l card arity
+-- what a call that writes leaves of the table's bytes l, with its refusal and its distance count
+unfoldable pub outcomeOf : Writing → List ℕ → Outcome
+outcomeOf clear l = record { refusal = clearOf l .refusal; count = 0; table = clearOf l .table }
+outcomeOf (insert card kind arity signature) l = insertOf l card kind arity signature
+outcomeOf (delete card arity) l = deleteOf l card arity
 
--- what is stored after an accepted change
-unfoldable pub storedBy : Change → List Newcomer → List Newcomer
+-- what is stored after it, if it is accepted
+unfoldable pub storedBy : Writing → List Newcomer → List Newcomer
 storedBy clear stored = []
 storedBy (insert card kind arity signature) stored =
     record { card = card; kind = kind; readings = readingsAt signature 0 } ∷ stored
 storedBy (delete card arity) stored = without card stored
 
--- what a call makes of table and stored cards: only an accepted change (refusal 0) changes what is stored
+-- what a call makes of table and stored cards: only an accepted call (refusal 0) changes what is stored
 unfoldable pub after : Call → State → State
-after (changes c) st =
+after (writes c) st =
     record {
-      table = changeOf c (st .table) .table;
-      stored = pick (eqb (changeOf c (st .table) .refusal) done) (storedBy c (st .stored)) (st .stored);
+      table = outcomeOf c (st .table) .table;
+      stored = pick (eqb (outcomeOf c (st .table) .refusal) done) (storedBy c (st .stored)) (st .stored);
     }
 after (reads r) st = st
 
@@ -107,8 +107,8 @@ pub record Line : Type 0 where
 abbrev pub line : ℕ → ℕ → ℕ → List ℕ → Line
 line refusal count found cards = record { refusal = refusal; count = count; found = found; cards = cards }
 
-abbrev ofChange : Outcome → Line
-ofChange o = line (o .refusal) (o .count) 0 []
+abbrev ofOutcome : Outcome → Line
+ofOutcome o = line (o .refusal) (o .count) 0 []
 
 abbrev ofListing : Listing → Line
 ofListing o = line (o .refusal) (o .count) (o .found) (take (o .found) (o .list))
@@ -119,7 +119,7 @@ tellsOf (search kind signature radius list) l = ofListing (searchOf l kind signa
 tellsOf check l = line (checkOf l) 0 0 []
 
 unfoldable pub reportOf : Call → State → Line
-reportOf (changes c) st = ofChange (changeOf c (st .table))
+reportOf (writes c) st = ofOutcome (outcomeOf c (st .table))
 reportOf (reads r) st = tellsOf r (st .table)
 
 -- what all calls of a history report, the first one first

@@ -26,8 +26,8 @@ use Rattle.insert.specs.Accepted.{comer, accepted-ready}
 use Rattle.insert.specs.Promises as Inserts
 use Rattle.delete.specs.Delete.{deleted, deleteOf}
 use Rattle.delete.specs.Promises as Deletes
-use Rattle.history.specs.History.{Change, clear, insert, delete, TypedChange, changeOf, storedBy}
-use Rattle.history.specs.History.{Call, changes, reads, Typed, AllTyped, State, cleared, without, after, run}
+use Rattle.history.specs.History.{Writing, clear, insert, delete, TypedWriting, outcomeOf, storedBy}
+use Rattle.history.specs.History.{Call, writes, reads, Typed, AllTyped, State, cleared, without, after, run}
 use Rattle.history.specs.Demands.{Holds, cardsOf}
 use Rattle.history.specs.Refused.{clear-untouched, insert-none, insert-bytes, delete-bytes}
 use Rattle.history.specs.Holds.{free-holds, cleared-holds, sized, records-are, table-holds}
@@ -89,7 +89,7 @@ module _ (c : ℕ) where
 -- ---- insert
 
 module _ (st : State) (card kind arity : ℕ) (signature : List ℕ)
-    (typed : TypedChange (insert card kind arity signature))
+    (typed : TypedWriting (insert card kind arity signature))
     (right : rightSize (length (st .table)) ≡ true) (h : Holds (recordsIn (st .table)) st)
     (e : insertOf (st .table) card kind arity signature .refusal ≡ done) where
   insert-holds :
@@ -163,7 +163,7 @@ module _ (st : State) (card arity : ℕ) (right : rightSize (length (st .table))
       ))
       (without-once card (st .stored) (h .once))
 
--- ---- every change: an accepted one leaves what is asked, and a refused one leaves the table
+-- ---- every call that writes: accepted, it leaves what is asked; refused, it leaves the table
 
 -- insert and delete speak of as many records as the bytes hold
 counted :
@@ -176,13 +176,13 @@ counted {n} {st} {left} h f =
 
 module _ {n : ℕ} (some : 1 ≤ n) (small : n ≤ mostRecords) where
   accepted-holds :
-      (c : Change)
-      → TypedChange c
+      (c : Writing)
+      → TypedWriting c
       → (st : State)
       → Holds n st
-      → changeOf c (st .table) .refusal ≡ done
-      → Holds n (record { table = changeOf c (st .table) .table; stored = storedBy c (st .stored) })
-  unfolding changeOf storedBy
+      → outcomeOf c (st .table) .refusal ≡ done
+      → Holds n (record { table = outcomeOf c (st .table) .table; stored = storedBy c (st .stored) })
+  unfolding outcomeOf storedBy
   accepted-holds clear typed st h e =
       rw (clear-done (st .table) (sized some small h), are-free (st .table) n (h .size)) (free-holds n)
   accepted-holds (insert card kind arity signature) typed st h e =
@@ -190,24 +190,24 @@ module _ {n : ℕ} (some : 1 ≤ n) (small : n ≤ mostRecords) where
   accepted-holds (delete card arity) typed st h e =
       counted h (λ own. delete-holds st card arity (sized some small h) own e)
 
-pub changeOf-refused : (c : Change) (l : List ℕ) → (changeOf c l .refusal ≡ done → ⊥) → changeOf c l .table ≡ l
-unfolding changeOf
-changeOf-refused clear l ne = clear-untouched l ne
-changeOf-refused (insert card kind arity signature) l ne =
+pub outcomeOf-refused : (c : Writing) (l : List ℕ) → (outcomeOf c l .refusal ≡ done → ⊥) → outcomeOf c l .table ≡ l
+unfolding outcomeOf
+outcomeOf-refused clear l ne = clear-untouched l ne
+outcomeOf-refused (insert card kind arity signature) l ne =
     Inserts.refused-touches-nothing l card kind arity signature ne .1
-changeOf-refused (delete card arity) l ne = Deletes.refused-touches-nothing l card arity ne .1
+outcomeOf-refused (delete card arity) l ne = Deletes.refused-touches-nothing l card arity ne .1
 
 -- ---- every call
 
 module _ {n : ℕ} (some : 1 ≤ n) (small : n ≤ mostRecords) where
   pub after-holds : (c : Call) → Typed c → (st : State) → Holds n st → Holds n (after c st)
   unfolding after
-  after-holds (changes c) typed st h =
-      elim (ℕ-discrete (changeOf c (st .table) .refusal) done) [
+  after-holds (writes c) typed st h =
+      elim (ℕ-discrete (outcomeOf c (st .table) .refusal) done) [
         | yes e ↦
-            rw (eq-eqb (changeOf c (st .table) .refusal) done e) (accepted-holds some small c typed st h e)
+            rw (eq-eqb (outcomeOf c (st .table) .refusal) done e) (accepted-holds some small c typed st h e)
         | no ne ↦
-            rw (ne-eqb (changeOf c (st .table) .refusal) done ne, changeOf-refused c (st .table) ne) h
+            rw (ne-eqb (outcomeOf c (st .table) .refusal) done ne, outcomeOf-refused c (st .table) ne) h
       ]
   after-holds (reads r) typed st h = h
 

@@ -47,7 +47,7 @@ use Rattle.search.specs.Laws.{accepted-is}
 use Rattle.search.specs.Promises.{refused-leaves}
 use Rattle.soundness.specs.Soundness.{isSound, checkOf}
 use Rattle.history.specs.History as History
-use Rattle.history.specs.History.{Call, changes, reads, changeOf, storedBy, tellsOf, Typed, AllTyped, State, cleared}
+use Rattle.history.specs.History.{Call, writes, reads, outcomeOf, storedBy, tellsOf, Typed, AllTyped, State, cleared}
 use Rattle.history.specs.History.{without, after, run, Line, line, reportOf, reports}
 use Rattle.history.specs.Demands.{Holds}
 use Rattle.history.specs.Holds.{sized, records-are}
@@ -65,8 +65,8 @@ pub data Step : Type 0 where
   check : Step
 
 abbrev pub call : Step → Call
-call (insert card kind arity signature) = changes (History.insert card kind arity signature)
-call (delete card arity) = changes (History.delete card arity)
+call (insert card kind arity signature) = writes (History.insert card kind arity signature)
+call (delete card arity) = writes (History.delete card arity)
 call (search kind signature radius list) = reads (History.search kind signature radius list)
 call check = reads History.check
 
@@ -225,7 +225,7 @@ module _ {m : ℕ} (some : 1 ≤ m) (small : m ≤ mostRecords) {st : State} (h 
 
   -- what a call reports
   pub report-on : (c : Step) → reportOf (call c) st ≡ reportOn c (recordsOf (st .table))
-  unfolding reportOf changeOf tellsOf reportOn changed refused listing searchLine
+  unfolding reportOf outcomeOf tellsOf reportOn changed refused listing searchLine
   report-on (insert card kind arity s) = elim (ℕ-discrete (Insert.refusalOf l card kind arity s) done) [
     | yes e ↦
         let same = insert-same-placed card kind arity s in
@@ -246,7 +246,7 @@ module _ {m : ℕ} (some : 1 ≤ m) (small : m ≤ mostRecords) {st : State} (h 
   -- the records that it leaves
   pub after-on :
       (c : Step) → Typed (call c) → recordsOf (after (call c) st .table) ≡ afterOn c (recordsOf (st .table))
-  unfolding after changeOf afterOn changed refused
+  unfolding after outcomeOf afterOn changed refused
   after-on (insert card kind arity s) typed = elim (ℕ-discrete (Insert.refusalOf l card kind arity s) done) [
     | yes e ↦
         rw (← insert-same card kind arity s, e)
@@ -267,7 +267,7 @@ module _ {m : ℕ} (some : 1 ≤ m) (small : m ≤ mostRecords) {st : State} (h 
 
   -- the cards that are stored then
   pub stored-on : (c : Step) → after (call c) st .stored ≡ storedOn c (recordsOf (st .table)) (st .stored)
-  unfolding after changeOf storedBy storedOn
+  unfolding after outcomeOf storedBy storedOn
   stored-on (insert card kind arity s) = rw (insert-refusal l card kind arity s, insert-same card kind arity s)
   stored-on (delete card arity) = rw (delete-refusal l card arity, delete-same card arity)
   stored-on (search kind s r list) = refl
