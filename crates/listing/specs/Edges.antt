@@ -6,10 +6,13 @@ use mathlib.Core.Path.{_≡_, refl, sym, ap, _∙_}
 use mathlib.Core.List.{List, [], _∷_, _++_, flatMap}
 use native.Mathlib.Omega.{arith}
 use lib.ListN.{replicate}
+use Rattle.places.specs.Fill.{zeros-at}
 use Rattle.places.specs.Sum.{sumTo}
 use Rattle.places.specs.Test.{countTo, allTo}
 use Rattle.number.specs.Number.{numberAt}
 use Rattle.number.specs.Frame.{Bytes}
+use Rattle.refusals.specs.Limits.{mostRecords}
+use Rattle.distance.specs.Laws.{farthest}
 use Rattle.distance.specs.Signature.{readingsAt}
 use Rattle.distance.specs.Kind.{apart}
 use Rattle.distance.specs.Readings.{readingsApart}
@@ -35,15 +38,15 @@ use Rattle.insert.specs.Insert.{rightArguments}
 use Rattle.search.specs.Search.{entered, cards, distances}
 use Rattle.delete.specs.Delete.{deleted, putBack, waiting, leaving, removed, freedAt, unhung, disowning, clockWouldPass}
 use Rattle.soundness.specs.Soundness.{isSound, allCovered, allNear, allIn, checkOf}
-use Rattle.history.specs.History.{Call, insert, delete, search, check, Typed, AllTyped, Line, line, cleared}
-use Rattle.history.specs.History.{without, run, reportOf, reports}
+use Rattle.history.specs.History.{Typed, AllTyped, Line, line, cleared, without, run, reportOf, reports}
 use Rattle.history.specs.Demands.{Holds}
 use Rattle.history.specs.Kept.{all-hold, run-holds}
-use Rattle.history.specs.Holds.{zeros-bytes, cleared-holds, sized}
-use Rattle.history.specs.OnRows.{insertRefusal, insertPlaced, deleteRefusal, deletePlaced, searchRefusal}
-use Rattle.history.specs.OnRows.{searchLine, reportOn, afterOn, reportsOn, runOn, cleared-rows, report-on}
-use Rattle.history.specs.OnRows.{reports-on, run-on, storedOn, storedAfter, stored-after, checkOn, reradius}
-use Rattle.history.specs.OnRows.{check-reradius}
+use Rattle.history.specs.Holds.{cleared-holds, sized}
+use Rattle.listing.specs.Rows.{Step, insert, delete, search, check, call, calls}
+use Rattle.listing.specs.Rows.{insertRefusal, insertPlaced, deleteRefusal, deletePlaced, searchRefusal}
+use Rattle.listing.specs.Rows.{searchLine, reportOn, afterOn, reportsOn, runOn, cleared-rows, report-on}
+use Rattle.listing.specs.Rows.{reports-on, run-on, storedOn, storedAfter, stored-after, checkOn, reradius}
+use Rattle.listing.specs.Rows.{check-reradius}
 
 -- ---- "Commands for this listing: kind 1, arity 2, reading 0 as given, the other readings 0"
 
@@ -51,7 +54,7 @@ use Rattle.history.specs.OnRows.{check-reradius}
 abbrev pub reading : ℕ → List ℕ
 reading v = v ∷ replicate 31 0
 
-abbrev put : ℕ → ℕ → Call
+abbrev put : ℕ → ℕ → Step
 put card v = insert card 1 2 (reading v)
 
 -- what such an insert brings
@@ -59,31 +62,31 @@ abbrev brings : ℕ → ℕ → Newcomer
 brings card v = record { card = card; kind = 1; readings = v ∷ replicate 15 0 }
 
 -- "its list has 512 places"
-abbrev look : ℕ → ℕ → Call
+abbrev look : ℕ → ℕ → Step
 look v r = search 1 (reading v) r (replicate 512 0)
 
 -- "Insert cards 11 to 16 with 50, 80, 20, 52, 40, 78": lines 1 to 6
-abbrev pub sixCards : List Call
+abbrev pub sixCards : List Step
 sixCards = put 11 50 ∷ put 12 80 ∷ put 13 20 ∷ put 14 52 ∷ put 15 40 ∷ put 16 78 ∷ []
 
 -- "search 48 with radius 5; delete 12; the same search; delete 99; check"
-abbrev pub paperListing : List Call
+abbrev pub paperListing : List Step
 paperListing = sixCards ++ (look 48 5 ∷ delete 12 2 ∷ look 48 5 ∷ delete 99 2 ∷ check ∷ [])
 
 -- ---- it is a history that the main theorem speaks of
 
 reading-bytes : (v : ℕ) → v < 256 → Bytes (reading v)
 reading-bytes v h zero = h
-reading-bytes v h (suc i) = zeros-bytes 31 i
+reading-bytes v h (suc i) = omega (arith, zeros-at 31 i)
 
-put-typed : (card v : ℕ) → card < 4294967296 → v < 256 → Typed (put card v)
+put-typed : (card v : ℕ) → card < 4294967296 → v < 256 → Typed (call (put card v))
 put-typed card v c h = (c, reading-bytes v h)
 
 -- what follows on the six cards
-abbrev rest : List Call
+abbrev rest : List Step
 rest = look 48 5 ∷ delete 12 2 ∷ look 48 5 ∷ delete 99 2 ∷ check ∷ []
 
-six-typed : (cs : List Call) → AllTyped cs → AllTyped (sixCards ++ cs)
+six-typed : (cs : List Step) → AllTyped (calls cs) → AllTyped (calls (sixCards ++ cs))
 six-typed cs h = (
   put-typed 11 50 (omega arith) (omega arith),
   (
@@ -98,9 +101,8 @@ six-typed cs h = (
   ),
 )
 
-pub listing-typed : AllTyped paperListing
-listing-typed =
-    six-typed rest (reading-bytes 48 (omega arith), (tt, (reading-bytes 48 (omega arith), (tt, (tt, tt)))))
+pub listing-typed : AllTyped (calls paperListing)
+listing-typed = six-typed rest (tt, (tt, (tt, (tt, (tt, tt)))))
 
 -- ---- on rows
 
@@ -150,17 +152,17 @@ on-rows = (refl, refl, refl, refl, refl, refl)
 
 -- the bytes after line 6
 abbrev six : List ℕ
-six = run sixCards (cleared 512) .table
+six = run (calls sixCards) (cleared 512) .table
 
 pub record Edges : Type 0 where
   -- "lines 1 to 9 above", and the last two
-  pub P1-to-P9 : reports paperListing (cleared 512) ≡ printed
+  pub P1-to-P9 : reports (calls paperListing) (cleared 512) ≡ printed
   -- "all readings 0 against all 65,535"
-  pub P10 : apart 1 (replicate 16 0) (replicate 16 65535) ≡ 1048560
+  pub P10 : apart 1 (replicate 16 0) (replicate 16 65535) ≡ farthest
   -- "no bits against all bits"
   pub P11 : apart 2 (replicate 16 0) (replicate 16 65535) ≡ 256
   -- "after line 6, search 40 with radius 0: card 15, count 4"
-  pub P12 : reportOf (look 40 0) (run sixCards (cleared 512)) ≡ line 0 4 1 (15 ∷ [])
+  pub P12 : reportOf (call (look 40 0)) (run (calls sixCards) (cleared 512)) ≡ line 0 4 1 (15 ∷ [])
   -- "after line 6 with record 11's radius set from 30 to 29: check gives 10"
   pub P13 : (recordOf six 0 .card ≡ 11) × (recordOf six 0 .radius ≡ 30) × (checkOf (putRadius six 0 29) ≡ 10)
 
@@ -168,14 +170,14 @@ pub edges : Edges
 unfolding apart
 edges =
     let some : 1 ≤ 512 = omega arith in
-    let small : 512 ≤ 1024 = omega arith in
+    let small : 512 ≤ mostRecords = omega arith in
     let start = cleared-holds 512 in
     let typed = six-typed [] tt in
-    let holds = all-hold some small sixCards typed (cleared 512) start in
-    let rows : recordsOf (run sixCards (cleared 512) .table) ≡ sixRows =
+    let holds = all-hold some small (calls sixCards) typed (cleared 512) start in
+    let rows : recordsOf six ≡ sixRows =
     run-on some small sixCards typed (cleared 512) start ∙ ap (runOn sixCards) (cleared-rows 512) in
-    let first : recordOf (run sixCards (cleared 512) .table) 0 ≡ at sixRows 0 =
-    ap (λ (S : ℕ → Record). S 0) (sym (rows-are (run sixCards (cleared 512) .table) (sized some small holds)))
+    let first : recordOf six 0 ≡ at sixRows 0 =
+    ap (λ (S : ℕ → Record). S 0) (sym (rows-are six (sized some small holds)))
     ∙ ap (λ (q : List Record). at q 0) rows in
     record {
       P1-to-P9 =
@@ -196,10 +198,10 @@ edges =
 
 -- ---- the main theorem is not about nothing: five cards are stored after the listing, and its theorem holds of them
 
-pub listing-holds : Holds 512 (run paperListing (cleared 512))
-listing-holds = run-holds (omega arith) (omega arith) paperListing listing-typed
+pub listing-holds : Holds 512 (run (calls paperListing) (cleared 512))
+listing-holds = run-holds (omega arith) (omega arith) (calls paperListing) listing-typed
 
-pub listing-stored : run paperListing (cleared 512) .stored ≡ leftStored
+pub listing-stored : run (calls paperListing) (cleared 512) .stored ≡ leftStored
 unfolding cleared
 listing-stored =
     stored-after (omega arith) (omega arith) paperListing listing-typed (cleared 512) (cleared-holds 512)

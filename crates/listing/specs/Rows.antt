@@ -1,6 +1,8 @@
 -- A history told on rows of records, so that it can be computed: what each call reports, the records that it leaves and
 -- the cards then stored come out of the records alone (`reports-on`, `run-on`, `stored-after`). The key idea: after a
--- history the tests of size and table are passed, and all else that a call looks at is in the records. Assumes nothing.
+-- history the tests of size and table are passed, and all else that a call looks at is in the records. Only the calls
+-- that the worked examples make are told here (`Step`), so that a further call of a history changes nothing.
+-- Assumes nothing.
 use Prim.Native.Nat.{ℕ, _^_, _≤_, _<_}
 use mathlib.Core.Path.{_≡_, refl, sym, ap, ap₂, _∙_}
 use mathlib.Core.Bool.{true, _&&_, not}
@@ -15,15 +17,14 @@ use Rattle.places.specs.Choice.{pick}
 use Rattle.distance.specs.Signature.{readingsAt}
 use Rattle.distance.specs.Kind.{apart, knownKind}
 use Rattle.table.specs.Record.{Record, free, recordOf}
-use Rattle.refusals.specs.Limits.{mostRecords, knownArity, lastTimestamp}
+use Rattle.refusals.specs.Limits.{mostRecords, knownArity, lastTimestamp, signatureLength}
 use Rattle.table.specs.Table.{rightSize, recordsIn, freeTable, recordsOf, at}
 use Rattle.table.specs.Put.{putRadius, withRadius}
 use Rattle.table.specs.Laws.{put-radius}
-use Rattle.table.specs.Stands.{are-in, are-stands, free-are, are-free}
+use Rattle.table.specs.Stands.{are-in, are-stands, free-are}
 use Rattle.table.specs.Same.{free-table}
 use Rattle.table.specs.Records.{records-length, records-in}
 use Rattle.table.specs.Size.{rows-are}
-use Rattle.table.specs.Clear.{clear-done}
 use Rattle.judge.specs.WellFormed.{wellFormed}
 use Rattle.judge.specs.Decided.{formed-decided}
 use Rattle.survey.specs.Survey.{usedIn, slotOfCard, lowestFree, largestTimestamp}
@@ -45,14 +46,33 @@ use Rattle.search.specs.Search as Search
 use Rattle.search.specs.Laws.{accepted-is}
 use Rattle.search.specs.Promises.{refused-leaves}
 use Rattle.soundness.specs.Soundness.{isSound, checkOf}
-use Rattle.history.specs.History.{Call, clear, insert, delete, search, check, Typed, AllTyped, State, cleared}
+use Rattle.history.specs.History as History
+use Rattle.history.specs.History.{Call, writes, reads, outcomeOf, storedBy, tellsOf, Typed, AllTyped, State, cleared}
 use Rattle.history.specs.History.{without, after, run, Line, line, reportOf, reports}
 use Rattle.history.specs.Demands.{Holds}
 use Rattle.history.specs.Holds.{sized, records-are}
 use Rattle.history.specs.Kept.{after-holds}
 use Rattle.history.specs.Searched.{check-done}
 use Rattle.history.specs.Refused.{insert-accepted, insert-refused, insert-refusal, delete-accepted}
 use Rattle.history.specs.Refused.{delete-refused, delete-refusal}
+
+-- ---- the calls of the worked examples
+
+pub data Step : Type 0 where
+  insert : (card kind arity : ℕ) (signature : List ℕ) → Step
+  delete : (card arity : ℕ) → Step
+  search : (kind : ℕ) (signature : List ℕ) (radius : ℕ) (list : List ℕ) → Step
+  check : Step
+
+abbrev pub call : Step → Call
+call (insert card kind arity signature) = writes (History.insert card kind arity signature)
+call (delete card arity) = writes (History.delete card arity)
+call (search kind signature radius list) = reads (History.search kind signature radius list)
+call check = reads History.check
+
+abbrev pub calls : List Step → List Call
+calls [] = []
+calls (c ∷ cs) = call c ∷ calls cs
 
 -- ---- the calls on rows that make a well-formed table of the right size
 
@@ -88,7 +108,7 @@ module _ (rows : List Record) where
   unfoldable pub searchRefusal : ℕ → List ℕ → ℕ → ℕ
   searchRefusal kind s m =
       firstOf
-      ((not (knownKind kind && eqb (length s) 32), ARGUMENT)
+      ((not (knownKind kind && eqb (length s) signatureLength), ARGUMENT)
       ∷ (otherKind n (at rows) kind, KIND)
       ∷ (ltb m (usedIn n (at rows)), SHORT)
       ∷ [])
@@ -105,8 +125,7 @@ module _ (rows : List Record) where
 abbrev answer : ℕ → Line → Line
 answer refusal accepted = pick (eqb refusal done) accepted (line refusal 0 0 [])
 
-unfoldable pub reportOn : Call → List Record → Line
-reportOn clear rows = line done 0 0 []
+unfoldable pub reportOn : Step → List Record → Line
 reportOn (insert card kind arity s) rows =
     answer (insertRefusal rows card kind arity s) (line done (insertPlaced rows card kind arity s .count) 0 [])
 reportOn (delete card arity) rows =
@@ -116,8 +135,7 @@ reportOn (search kind s r list) rows =
 reportOn check rows = line done 0 0 []
 
 -- the records that a call leaves
-unfoldable pub afterOn : Call → List Record → List Record
-afterOn clear rows = replicate (length rows) free
+unfoldable pub afterOn : Step → List Record → List Record
 afterOn (insert card kind arity s) rows =
     pick (eqb (insertRefusal rows card kind arity s) done) (insertPlaced rows card kind arity s .rows) rows
 afterOn (delete card arity) rows =
@@ -125,17 +143,16 @@ afterOn (delete card arity) rows =
 afterOn (search kind s r list) rows = rows
 afterOn check rows = rows
 
-unfoldable pub reportsOn : List Call → List Record → List Line
+unfoldable pub reportsOn : List Step → List Record → List Line
 reportsOn [] rows = []
 reportsOn (c ∷ cs) rows = reportOn c rows ∷ reportsOn cs (afterOn c rows)
 
-unfoldable pub runOn : List Call → List Record → List Record
+unfoldable pub runOn : List Step → List Record → List Record
 runOn [] rows = rows
 runOn (c ∷ cs) rows = runOn cs (afterOn c rows)
 
 -- the cards that are stored after a call
-unfoldable pub storedOn : Call → List Record → List Newcomer → List Newcomer
-storedOn clear rows xs = []
+unfoldable pub storedOn : Step → List Record → List Newcomer → List Newcomer
 storedOn (insert card kind arity s) rows xs =
     pick
     (eqb (insertRefusal rows card kind arity s) done)
@@ -145,14 +162,14 @@ storedOn (delete card arity) rows xs = pick (eqb (deleteRefusal rows card arity)
 storedOn (search kind s r list) rows xs = xs
 storedOn check rows xs = xs
 
-unfoldable pub storedAfter : List Call → List Record → List Newcomer → List Newcomer
+unfoldable pub storedAfter : List Step → List Record → List Newcomer → List Newcomer
 storedAfter [] rows xs = xs
 storedAfter (c ∷ cs) rows xs = storedAfter cs (afterOn c rows) (storedOn c rows xs)
 
 -- ---- a cleared table
 
-pub zeros-rows : (n : ℕ) → recordsOf (freeTable n) ≡ replicate n free
-zeros-rows n =
+pub free-rows : (n : ℕ) → recordsOf (freeTable n) ≡ replicate n free
+free-rows n =
     let l = freeTable n in
     let long : recordsIn l ≡ n = are-in l n (free-are n) in
     ext-getD free (recordsOf l) (replicate n free)
@@ -163,7 +180,7 @@ zeros-rows n =
 
 pub cleared-rows : (n : ℕ) → recordsOf (cleared n .table) ≡ replicate n free
 unfolding cleared
-cleared-rows n = zeros-rows n
+cleared-rows n = free-rows n
 
 -- ---- a table that holds
 
@@ -207,9 +224,8 @@ module _ {m : ℕ} (some : 1 ≤ m) (small : m ≤ mostRecords) {st : State} (h 
       (sym (rows-are l size))
 
   -- what a call reports
-  pub report-on : (c : Call) → reportOf c st ≡ reportOn c (recordsOf (st .table))
-  unfolding reportOf reportOn changed refused listing searchLine
-  report-on clear = rw (clear-done l size)
+  pub report-on : (c : Step) → reportOf (call c) st ≡ reportOn c (recordsOf (st .table))
+  unfolding reportOf outcomeOf tellsOf reportOn changed refused listing searchLine
   report-on (insert card kind arity s) = elim (ℕ-discrete (Insert.refusalOf l card kind arity s) done) [
     | yes e ↦
         let same = insert-same-placed card kind arity s in
@@ -228,10 +244,9 @@ module _ {m : ℕ} (some : 1 ≤ m) (small : m ≤ mostRecords) {st : State} (h 
   report-on check = rw (check-done some small h)
 
   -- the records that it leaves
-  pub after-on : (c : Call) → Typed c → recordsOf (after c st .table) ≡ afterOn c (recordsOf (st .table))
-  unfolding after afterOn changed refused
-  after-on clear typed =
-      rw (clear-done l size, are-free l m (h .size), records-length l, records-are h) (zeros-rows m)
+  pub after-on :
+      (c : Step) → Typed (call c) → recordsOf (after (call c) st .table) ≡ afterOn c (recordsOf (st .table))
+  unfolding after outcomeOf afterOn changed refused
   after-on (insert card kind arity s) typed = elim (ℕ-discrete (Insert.refusalOf l card kind arity s) done) [
     | yes e ↦
         rw (← insert-same card kind arity s, e)
@@ -251,9 +266,8 @@ module _ {m : ℕ} (some : 1 ≤ m) (small : m ≤ mostRecords) {st : State} (h 
   after-on check typed = refl
 
   -- the cards that are stored then
-  pub stored-on : (c : Call) → after c st .stored ≡ storedOn c (recordsOf (st .table)) (st .stored)
-  unfolding after storedOn
-  stored-on clear = rw (clear-done l size)
+  pub stored-on : (c : Step) → after (call c) st .stored ≡ storedOn c (recordsOf (st .table)) (st .stored)
+  unfolding after outcomeOf storedBy storedOn
   stored-on (insert card kind arity s) = rw (insert-refusal l card kind arity s, insert-same card kind arity s)
   stored-on (delete card arity) = rw (delete-refusal l card arity, delete-same card arity)
   stored-on (search kind s r list) = refl
@@ -263,41 +277,41 @@ module _ {m : ℕ} (some : 1 ≤ m) (small : m ≤ mostRecords) {st : State} (h 
 
 module _ {m : ℕ} (some : 1 ≤ m) (small : m ≤ mostRecords) where
   pub reports-on :
-      (cs : List Call)
-      → AllTyped cs
+      (cs : List Step)
+      → AllTyped (calls cs)
       → (st : State)
       → Holds m st
-      → reports cs st ≡ reportsOn cs (recordsOf (st .table))
+      → reports (calls cs) st ≡ reportsOn cs (recordsOf (st .table))
   unfolding reports reportsOn
   reports-on [] typed st h = refl
   reports-on (c ∷ cs) typed st h =
       ap₂ (λ (y : Line) (ys : List Line). y ∷ ys)
       (report-on some small h c)
-      (reports-on cs (typed .1) (after c st) (after-holds some small c (typed .0) st h)
+      (reports-on cs (typed .1) (after (call c) st) (after-holds some small (call c) (typed .0) st h)
       ∙ ap (reportsOn cs) (after-on some small h c (typed .0)))
 
   pub run-on :
-      (cs : List Call)
-      → AllTyped cs
+      (cs : List Step)
+      → AllTyped (calls cs)
       → (st : State)
       → Holds m st
-      → recordsOf (run cs st .table) ≡ runOn cs (recordsOf (st .table))
+      → recordsOf (run (calls cs) st .table) ≡ runOn cs (recordsOf (st .table))
   unfolding run runOn
   run-on [] typed st h = refl
   run-on (c ∷ cs) typed st h =
-      run-on cs (typed .1) (after c st) (after-holds some small c (typed .0) st h)
+      run-on cs (typed .1) (after (call c) st) (after-holds some small (call c) (typed .0) st h)
       ∙ ap (runOn cs) (after-on some small h c (typed .0))
 
   pub stored-after :
-      (cs : List Call)
-      → AllTyped cs
+      (cs : List Step)
+      → AllTyped (calls cs)
       → (st : State)
       → Holds m st
-      → run cs st .stored ≡ storedAfter cs (recordsOf (st .table)) (st .stored)
+      → run (calls cs) st .stored ≡ storedAfter cs (recordsOf (st .table)) (st .stored)
   unfolding run storedAfter
   stored-after [] typed st h = refl
   stored-after (c ∷ cs) typed st h =
-      stored-after cs (typed .1) (after c st) (after-holds some small c (typed .0) st h)
+      stored-after cs (typed .1) (after (call c) st) (after-holds some small (call c) (typed .0) st h)
       ∙ ap₂ (storedAfter cs) (after-on some small h c (typed .0)) (stored-on some small h c)
 
 -- ---- check, of any table of the right size
