@@ -3,6 +3,7 @@
 use Prim.Native.Nat.{_≤_, _-_}
 use Rattle.table.specs.Record.{recordOf}
 use Rattle.links.specs.Loop.Children.{LinkedTo, linked-start, linked-out, linked-not, linked-turn, linked-end}
+use Rattle.table.specs.Stands.{stands-rules}
 use native.Mathlib.Omega.{arith}
 use borrow.Author.Needs.{needs}
 use Rattle.links.proofs.children_ok.Statement.{statement}
@@ -35,7 +36,7 @@ loop-holds c = (
 )
 
 child-of-requires : tie.Need-child-of-requires Inv-loop μ-loop
-child-of-requires c κs = search needs
+child-of-requires c κs = search (needs, stands-rules)
 
 returns : tie.Need-returns Inv-loop μ-loop
 returns c =
@@ -54,10 +55,10 @@ returns c =
     (omega arith)
 
 timestamp-of-requires : tie.Need-timestamp-of-requires Inv-loop μ-loop
-timestamp-of-requires c κs = search needs
+timestamp-of-requires c κs = search (needs, stands-rules)
 
 parent-of-requires : tie.Need-parent-of-requires Inv-loop μ-loop
-parent-of-requires c κs = search needs
+parent-of-requires c κs = search (needs, stands-rules)
 
 cast-if2 : tie.Need-cast-if2 Inv-loop μ-loop
 cast-if2 c = search needs

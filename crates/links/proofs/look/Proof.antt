@@ -9,6 +9,7 @@ use Rattle.table.specs.Record.{Record, Used, recordOf, noSlot}
 use Rattle.judge.specs.WellFormed.{isFilled}
 use Rattle.judge.specs.Counted.{allLinked}
 use Rattle.links.specs.Loop.Seen.{SeenBefore, seen-most, seen-free, seen-used, byte-most, told}
+use Rattle.table.specs.Stands.{stands-rules}
 use native.Mathlib.Omega.{arith}
 use borrow.Author.Needs.{needs}
 use Rattle.links.proofs.look.Statement.{statement}
@@ -54,10 +55,10 @@ fitting c =
 -- ---- needs
 
 card-of-requires : tie.Need-card-of-requires
-card-of-requires c κs = search needs
+card-of-requires c κs = search (needs, stands-rules)
 
 is-free-requires : tie.Need-is-free-requires
-is-free-requires c κs = search needs
+is-free-requires c κs = search (needs, stands-rules)
 
 earlier-requires : tie.Need-earlier-requires
 earlier-requires c κs = search needs
@@ -79,16 +80,16 @@ returns c =
     (c .earlier .ensures)
 
 kind-of-requires : tie.Need-kind-of-requires
-kind-of-requires c κs = search needs
+kind-of-requires c κs = search (needs, stands-rules)
 
 count-of-requires : tie.Need-count-of-requires
-count-of-requires c κs = search needs
+count-of-requires c κs = search (needs, stands-rules)
 
 timestamp-of-requires : tie.Need-timestamp-of-requires
-timestamp-of-requires c κs = search needs
+timestamp-of-requires c κs = search (needs, stands-rules)
 
 parent-of-requires : tie.Need-parent-of-requires
-parent-of-requires c κs = search needs
+parent-of-requires c κs = search (needs, stands-rules)
 
 record-ok-requires : tie.Need-record-ok-requires
 record-ok-requires c κs =

@@ -4,6 +4,7 @@ use mathlib.Core.Path.{_≡_, sym, _∙_}
 use borrow.Author.Count.{below-more}
 use Rattle.table.specs.Record.{recordOf}
 use Rattle.survey.specs.Laws.{NoCard, card-here, card-nowhere}
+use Rattle.table.specs.Stands.{stands-rules}
 use native.Mathlib.Omega.{arith}
 use borrow.Author.Needs.{needs}
 use Rattle.survey.proofs.slot_of_card.Statement.{statement}
@@ -19,7 +20,7 @@ loop-holds : tie.Need-loop-holds Inv-loop μ-loop
 loop-holds c = (omega arith, λ a b e. absurd (omega arith))
 
 card-of-requires : tie.Need-card-of-requires Inv-loop μ-loop
-card-of-requires c κs = search needs
+card-of-requires c κs = search (needs, stands-rules)
 
 returns : tie.Need-returns Inv-loop μ-loop
 returns c =

@@ -1,6 +1,8 @@
 -- `survey::survey` meets its contract. The loop's invariant: the records from k on are seen. Assumes nothing.
+use Prim.Native.Nat.{_-_, _<_}
 use mathlib.Core.Path.{_≡_, ap}
 use Rattle.table.specs.Record.{Record, recordOf}
+use Rattle.table.specs.Stands.{are-stands}
 use Rattle.table.specs.Same.{past-are}
 use Rattle.survey.specs.Pass.{Passed, pass-start, pass-down, pass-end}
 use native.Mathlib.Omega.{arith}
@@ -24,7 +26,11 @@ sub-k : tie.Need-sub-k Inv-loop μ-loop
 sub-k c = search needs
 
 note-requires : tie.Need-note-requires Inv-loop μ-loop
-note-requires c κs = search needs
+note-requires c κs =
+    let start = c .before .before .before in
+    let k = c .before .loop .k in
+    let below : k - 1 < start .args .n = omega arith in
+    (are-stands (start .args .t .now) (start .args .n) (k - 1) (start .pre) below, search needs)
 
 loop-less : tie.Need-loop-less Inv-loop μ-loop
 loop-less c = search needs

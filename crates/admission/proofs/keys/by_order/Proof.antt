@@ -7,6 +7,7 @@ use lib.Seq.{getD-set-same, getD-set-other, length-take-le}
 use borrow.Author.Count.{below-more}
 use Rattle.table.specs.Record.{recordOf}
 use Rattle.admission.specs.Key.{keyOf, gathered}
+use Rattle.table.specs.Stands.{stands-rules}
 use native.Mathlib.Omega.{arith}
 use borrow.Author.Needs.{needs}
 use Rattle.admission.proofs.keys.by_order.Statement.{statement}
@@ -23,7 +24,7 @@ loop-holds : tie.Need-loop-holds Inv-loop μ-loop
 loop-holds c = (omega arith, refl, λ k b. absurd (omega arith))
 
 key-of-requires : tie.Need-key-of-requires Inv-loop μ-loop
-key-of-requires c κs = search needs
+key-of-requires c κs = search (needs, stands-rules)
 
 mul-keys : tie.Need-mul-keys Inv-loop μ-loop
 mul-keys c = search needs

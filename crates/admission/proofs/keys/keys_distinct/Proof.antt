@@ -4,6 +4,7 @@ use Prim.Native.Nat.{ℕ, _-_, _≤_}
 use mathlib.Core.Path.{_≡_, sym, ap, _∙_}
 use mathlib.Core.List.{List}
 use native.Mathlib.Nat.{mod-lt}
+use Rattle.table.specs.Stands.{stands-rules}
 use native.Mathlib.Omega.{arith}
 use borrow.Author.Needs.{needs}
 use lib.Dec.{lit<}
@@ -30,7 +31,7 @@ loop-holds : tie.Need-loop-holds Inv-loop μ-loop
 loop-holds c = (omega arith, holds-none _ _ cellCount (λ key d. mod-lt _ (lit< tt)))
 
 key-of-requires : tie.Need-key-of-requires Inv-loop μ-loop
-key-of-requires c κs = search needs
+key-of-requires c κs = search (needs, stands-rules)
 
 seat-key-requires : tie.Need-seat-key-requires Inv-loop μ-loop
 seat-key-requires c κs = search needs
