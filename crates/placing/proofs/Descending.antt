@@ -28,7 +28,7 @@ use Rattle.tree.specs.View.{away as away′}
 use Rattle.view.specs.View.{viewOf}
 use Rattle.view.specs.Children.{children-length, children-slot}
 use Rattle.newcomer.specs.Newcomer.{raised}
-use Rattle.placing.specs.Place.Row.{Still, still-self}
+use Rattle.placing.specs.Place.Row.{Still, still-self, still-raised}
 use Rattle.placing.specs.Loop.Descent.{Descended, descent, descended}
 use Rattle.table.specs.Stands.{Stands, Walkable, stands-same, walkable-same}
 use Rattle.placing.specs.Loop.DescentTurn.{Near, near, scanned, nearestOf}
@@ -100,7 +100,7 @@ module _ {kind : ℕ} {x l : List ℕ} {a n best e k : ℕ} (s : Scanning kind x
         here = s .here;
         count-is = s .count-is;
         passed = omega arith;
-        stands = rw eb (either (ltb f e));
+        stands = rw eb (one-stands (ltb f e));
         small = rw ee (bounded (ltb f e));
         rest =
             rw (eb, ee, ef)
@@ -108,9 +108,9 @@ module _ {kind : ℕ} {x l : List ℕ} {a n best e k : ℕ} (s : Scanning kind x
             ∙ s .rest);
       }
     where
-      either : (b : Bool) → Stands l (pick b c best)
-      either true = rw ec (scanning-child h .1)
-      either false = s .stands
+      one-stands : (b : Bool) → Stands l (pick b c best)
+      one-stands true = rw ec (scanning-child h .1)
+      one-stands false = s .stands
 
       bounded : (b : Bool) → pick b f e ≤ farther
       bounded true = omega arith
@@ -121,15 +121,6 @@ module _ {kind : ℕ} {x l : List ℕ} {a n best e k : ℕ} (s : Scanning kind x
 or-false : (p q : Bool) → p || q ≡ false → (p ≡ false) × (q ≡ false)
 or-false true q e = absurd (false≢true (sym e))
 or-false false q e = (refl, e)
-
-still-raised : (r : Record) (k : ℕ) → Still r (raised k r)
-unfolding raised
-still-raised r k =
-    record {
-      kept = record { card = refl; timestamp = refl; parent = refl; kind = refl; readings = refl };
-      count = refl;
-      slots = refl;
-    }
 
 module _ {l₀ x l : List ℕ} {kind arity root depth a away left count : ℕ}
     (w : Walking l₀ kind x arity root depth l a away left count)
@@ -146,14 +137,14 @@ module _ {l₀ x l : List ℕ} {kind arity root depth a away left count : ℕ}
     | yes e ↦
         let q : recordOf m s ≡ raised away (recordOf l s) =
         ap (recordOf m) e ∙ b .here ∙ ap (λ (i : ℕ). raised away (recordOf l i)) (sym e) in
-        rw q (still-raised (recordOf l s) away)
+        rw q (still-raised (recordOf l s) (recordOf l s) away (still-self (recordOf l s)))
     | no ne ↦ rw (b .elsewhere s ne) (still-self (recordOf l s))
   ]
 
   raised-walkable : Walkable m
   raised-walkable = walkable-same (b .same-length) (λ s. still s .count) (λ s. still s .slots) (w .walkable)
 
-  still-here : Stands m a
+  pub still-here : Stands m a
   still-here = stands-same l m (b .same-length) a (w .here)
 
   rows-lifted : recordsOf m ≡ lifted d x arity rows a

@@ -126,6 +126,11 @@ module _ {l : List ℕ} {kind arity s root depth : ℕ} (ok : Hangable l kind ar
     pub host-room : recordOf m on .count < mostChildren
     host-room = omega (arith, still on .count, ok .room, ap (λ (i : ℕ). at rows i .count) on-host)
 
+    -- the newcomer's slot stands still, where the host has its child
+    pub slot-still : {k : List ℕ} → Became m on (adopting s (recordOf m on)) k → Stands k s
+    slot-still {k} adopted =
+        stands-same m k (adopted .same-length) s (stands-same l m (over .same-length) s (ok .slot-stands))
+
     module _ {k j : List ℕ} (timestamp : ℕ) (adopted : Became m on (adopting s (recordOf m on)) k)
         (seated : Became k s (fresh (brought (recordOf k s)) timestamp on) j) where
       kept : Kept (at rows s) (recordOf k s)

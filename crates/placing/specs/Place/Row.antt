@@ -36,7 +36,7 @@ kept-self r = record { card = refl; timestamp = refl; parent = refl; kind = refl
 pub still-self : (r : Record) → Still r r
 still-self r = record { kept = kept-self r; count = refl; slots = refl }
 
-still-raised : (r q : Record) (k : ℕ) → Still r q → Still r (raised k q)
+pub still-raised : (r q : Record) (k : ℕ) → Still r q → Still r (raised k q)
 unfolding raised
 still-raised r q k h =
     record {

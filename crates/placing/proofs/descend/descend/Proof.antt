@@ -9,7 +9,7 @@ use borrow.Author.Tests.{lt-ltb, le-ltb}
 use Rattle.places.specs.Cases.{either}
 use Rattle.places.specs.Choice.{pick}
 use Rattle.number.specs.Frame.{Bytes}
-use Rattle.placing.proofs.Descending.{Walking, few, walk-on, walk-ends}
+use Rattle.placing.proofs.Descending.{Walking, still-here, few, walk-on, walk-ends}
 use Rattle.placing.proofs.Descending.{Scanning, scanning, scanning-child, scanning-more}
 use Rattle.placing.proofs.descend.descend.Statement.{statement}
 use Rattle.placing.proofs.descend.descend.Tie as tie
@@ -84,7 +84,9 @@ sub-left : tie.Need-sub-left Inv-loop2 μ-loop2 Inv-loop μ-loop
 sub-left c = search needs
 
 children-of-requires : tie.Need-children-of-requires Inv-loop2 μ-loop2 Inv-loop μ-loop
-children-of-requires c κs = search needs
+children-of-requires c κs =
+    let r = c .before .before .before in
+    still-here (turn r .loop .inv) (r .raise .ensures)
 
 cast-count : tie.Need-cast-count Inv-loop2 μ-loop2 Inv-loop μ-loop
 cast-count c = omega (arith, c .children-of .ensures, few (walk c .loop .inv) (raised c .raise .ensures))
