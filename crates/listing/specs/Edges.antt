@@ -36,7 +36,10 @@ use Rattle.placing.specs.Place.{placed, asRoot, hanging, hangingFrom, raisedAlo
 use Rattle.newcomer.specs.Newcomer.{Newcomer, raised, adopting, fresh}
 use Rattle.insert.specs.Insert.{rightArguments}
 use Rattle.search.specs.Search.{entered, cards, distances}
-use Rattle.delete.specs.Delete.{deleted, putBack, waiting, leaving, removed, freedAt, unhung, disowning, clockWouldPass}
+use Rattle.view.specs.Freed.{freedAt}
+use Rattle.removal.specs.Removal.{leaving, removed, unhung, disowning}
+use Rattle.back.specs.Back.{putBack}
+use Rattle.delete.specs.Delete.{deleted, waiting, clockWouldPass}
 use Rattle.soundness.specs.Soundness.{isSound, allCovered, allNear, allIn, checkOf}
 use Rattle.history.specs.History.{Typed, AllTyped, Line, line, cleared, without, run, reportOf, reports}
 use Rattle.history.specs.Demands.{Holds}
