@@ -4,7 +4,10 @@ ghost use Prim.Native.Nat.{_≤_};
 ghost use Rattle.table.specs.Clear.{Cleared, clearOf};
 ghost use Rattle.survey.specs.Survey.{usedIn, lowestFree, rootOf, kindOf, largestTimestamp};
 ghost use Rattle.probe.specs.Probe.{distanceProbe, judgeProbe, asked, slotQuestion};
-ghost use Rattle.probe.specs.Tells.{Tells};
+ghost use Rattle.probe.specs.Tells.{Tells, Small, Widened};
+use refusals::DONE;
+use refusals::limit::SIGNATURE;
+use survey::Findings;
 use table::RECORD;
 
 const NO_ANSWER: u32 = 4294967295;
@@ -14,9 +17,8 @@ const NO_ANSWER: u32 = 4294967295;
 pub extern "C" fn probe_distance(kind: u8, a: &[u8], b: &[u8]) -> u32
     ensures { λ r. ⌜ r ≡ distanceProbe kind (now (a .entry)) (now (b .entry)) ⌝ }
 {
-    let known = (1 <= kind) & (kind <= 2);
-    let whole = (a.len() == 32) & (b.len() == 32);
-    if known & whole {
+    let whole = (a.len() == SIGNATURE) & (b.len() == SIGNATURE);
+    if distance::known_kind(kind) & whole {
         distance::apart(
             kind,
             distance::signature_at(a, 0),
@@ -32,12 +34,7 @@ pub extern "C" fn probe_distance(kind: u8, a: &[u8], b: &[u8]) -> u32
 pub extern "C" fn probe_judge(t: &[u8]) -> u32
     ensures { λ r. ⌜ r ≡ judgeProbe (now (t .entry)) ⌝ }
 {
-    if table::right_size(t) {
-        let n = t.len() / RECORD;
-        if admission::well_formed(t, n) { 0 } else { 2 }
-    } else {
-        1
-    }
+    admission::admit(t).refusal as u32
 }
 
 // Clears a table.
@@ -57,19 +54,27 @@ struct Told {
     kind: u32,
 }
 
+// Of findings in a table: slots and counts are at most its records.
+fn widened(f: Findings) -> Told
+    requires { ⌜ Small f ⌝ }
+    ensures { λ r. ⌜ Widened f r ⌝ }
+{
+    Told {
+        used: f.used as u32,
+        lowest: f.lowest as u32,
+        largest: f.largest,
+        root: f.root as u32,
+        kind: f.kind as u32,
+    }
+}
+
 // The small questions, asked of a table that is judged first.
 fn tell(t: &[u8]) -> Told
     ensures { λ r. ⌜ Tells (now (t .entry)) r ⌝ }
 {
-    if probe_judge(t) == 0 {
-        let f = survey::survey(t, t.len() / RECORD);
-        Told {
-            used: f.used as u32,
-            lowest: f.lowest as u32,
-            largest: f.largest,
-            root: f.root as u32,
-            kind: f.kind as u32,
-        }
+    let admitted = admission::admit(t);
+    if admitted.refusal == DONE {
+        widened(admitted.found)
     } else {
         Told {
             used: NO_ANSWER,
@@ -120,7 +125,7 @@ pub extern "C" fn probe_kind(t: &[u8]) -> u32
 pub extern "C" fn probe_slot_of(t: &[u8], card: u32) -> u32
     ensures { λ r. ⌜ r ≡ asked (now (t .entry)) (slotQuestion card) ⌝ }
 {
-    if probe_judge(t) == 0 {
+    if admission::admit(t).refusal == DONE {
         let n = t.len() / RECORD;
         if card == 0 {
             return n as u32;

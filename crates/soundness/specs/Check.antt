@@ -1,82 +1,97 @@
--- What the check call uses of its definition: each refusal in its place, and the route for the paper's words where the
--- table is of the right size and well formed. And what its answer says: done exactly if the table is sound.
--- Assumes nothing.
+-- What the check call uses of its definition: the table's own refusal comes first, and of an admitted table the route
+-- stands for the paper's words. And what its answer says: done exactly if the table is sound. Assumes nothing.
 use Prim.Native.Nat.{ℕ}
-use mathlib.Core.Path.{_≡_, refl}
+use mathlib.Core.Path.{_≡_, refl, sym, ap, _∙_}
 use mathlib.Core.Bool.{Bool, true, false, not}
-use mathlib.Core.List.{List, [], _∷_}
+use mathlib.Core.List.{List, [], _∷_, _++_}
 use native.Mathlib.Omega.{arith}
+use lib.Dec.{eqb}
 use lib.ListN.{length}
+use borrow.Author.Tests.{eq-eqb, ne-eqb, eqb-true}
+use Rattle.places.specs.Choice.{pick}
+use Rattle.refusals.specs.Refusal.{Test, LOOSE, done, firstOf}
+use Rattle.refusals.specs.First.{first-append}
 use Rattle.table.specs.Record.{recordOf}
 use Rattle.table.specs.Table.{rightSize, recordsIn}
-pub use Rattle.table.specs.Size.{whole}
-use Rattle.judge.specs.WellFormed.{wellFormed}
+use Rattle.table.specs.Stands.{right-are, right-most}
 use Rattle.judge.specs.Decided.{formed-decided}
-use Rattle.refusals.specs.Refusal.{SIZE, TABLE, LOOSE, done, firstOf}
+use Rattle.admission.specs.Admission.{admissionTests, Readable, admitted-readable}
 use Rattle.view.specs.Shaped.{shaped-bytes}
+use Rattle.view.specs.Readable.{readable-formed, readable-shaped}
 use Rattle.view.specs.Sound.{SoundTable}
 use Rattle.soundness.specs.Soundness.{isSound, checkOf}
 use Rattle.soundness.specs.Decided.{sound-decided}
 use Rattle.soundness.specs.Climb.{route}
 use Rattle.soundness.specs.Route.{route-is}
-use Rattle.soundness.specs.Stands.{Whole}
 
 module _ (l : List ℕ) where
-  pub check-size : rightSize (length l) ≡ false → checkOf l ≡ SIZE
+  -- the check's own test
+  abbrev loose : List Test
+  loose = (not (isSound (recordsIn l) (recordOf l)), LOOSE) ∷ []
+
+  by-admission :
+      (t : Bool)
+      → eqb (firstOf (admissionTests l)) done ≡ t
+      → checkOf l ≡ pick t (firstOf loose) (firstOf (admissionTests l))
   unfolding checkOf
-  check-size e = rw e
+  by-admission t e =
+      first-append (admissionTests l) loose refl
+      ∙ ap (λ (b : Bool). pick b (firstOf loose) (firstOf (admissionTests l))) e
 
-  module _ (size : rightSize (length l) ≡ true) where
-    pub check-table : wellFormed (recordsIn l) (recordOf l) ≡ false → checkOf l ≡ TABLE
-    unfolding checkOf
-    check-table e = rw (size, e)
+  -- a table that is refused before it is looked through
+  pub check-refused : (firstOf (admissionTests l) ≡ done → ⊥) → checkOf l ≡ firstOf (admissionTests l)
+  check-refused ne = by-admission false (ne-eqb (firstOf (admissionTests l)) done ne)
 
-    module _ (formed : wellFormed (recordsIn l) (recordOf l) ≡ true) where
-      pub check-whole : Whole l
-      check-whole = formed-decided (recordsIn l) (recordOf l) .shows formed
+  module _ (admitted : firstOf (admissionTests l) ≡ done) where
+    readable : Readable l
+    readable = admitted-readable l admitted
 
-      -- the route stands for the paper's words
-      route-sound : route (recordsIn l) (recordOf l) ≡ isSound (recordsIn l) (recordOf l)
-      route-sound =
-          let w = whole (length l) size in
-          route-is (w .1) (shaped-bytes (recordsIn l) l (w .0)) check-whole
+    -- the route stands for the paper's words
+    route-sound : route (recordsIn l) (recordOf l) ≡ isSound (recordsIn l) (recordOf l)
+    route-sound = route-is (right-most l (readable .size)) (readable-shaped readable) (readable-formed readable)
 
-      pub check-loose : route (recordsIn l) (recordOf l) ≡ false → checkOf l ≡ LOOSE
-      unfolding checkOf
-      check-loose e = rw (size, formed, ← route-sound, e)
+    -- and decides
+    decided : (t : Bool) → route (recordsIn l) (recordOf l) ≡ t → checkOf l ≡ firstOf ((not t, LOOSE) ∷ [])
+    decided t e =
+        by-admission true (eq-eqb (firstOf (admissionTests l)) done admitted)
+        ∙ ap (λ (b : Bool). firstOf ((not b, LOOSE) ∷ [])) (sym route-sound ∙ e)
 
-      pub check-done : route (recordsIn l) (recordOf l) ≡ true → checkOf l ≡ done
-      unfolding checkOf
-      check-done e = rw (size, formed, ← route-sound, e)
+    pub check-loose : route (recordsIn l) (recordOf l) ≡ false → checkOf l ≡ LOOSE
+    check-loose = decided false
+
+    pub check-done : route (recordsIn l) (recordOf l) ≡ true → checkOf l ≡ done
+    check-done = decided true
 
 -- ---- what the answer says of the table
 
--- where no test refuses, all three are passed
-all-passed :
-    (size formed sound : Bool)
-    → firstOf ((not size, SIZE) ∷ (not formed, TABLE) ∷ (not sound, LOOSE) ∷ []) ≡ done
-    → (size ≡ true) × (formed ≡ true) × (sound ≡ true)
-all-passed true true true e = (refl, refl, refl)
-all-passed true true false e = absurd (omega arith)
-all-passed true false sound e = absurd (omega arith)
-all-passed false formed sound e = absurd (omega arith)
+-- a test that does not refuse is passed
+passed : (sound : Bool) → firstOf ((not sound, LOOSE) ∷ []) ≡ done → sound ≡ true
+passed true e = refl
+passed false e = absurd (omega arith)
 
 module _ (l : List ℕ) where
+  -- a check that is done was of a table that was admitted
+  done-admitted : checkOf l ≡ done → firstOf (admissionTests l) ≡ done
+  done-admitted e = go (eqb (firstOf (admissionTests l)) done) refl
+    where
+      go : (t : Bool) → eqb (firstOf (admissionTests l)) done ≡ t → firstOf (admissionTests l) ≡ done
+      go true q = eqb-true (firstOf (admissionTests l)) done q
+      go false q = sym (by-admission l false q) ∙ e
+
   -- a check that is done saw a sound table
   pub done-sound : checkOf l ≡ done → (rightSize (length l) ≡ true) × SoundTable (recordsIn l) (recordOf l)
-  unfolding checkOf
   done-sound e =
-      let n = recordsIn l in
-      let p = all-passed (rightSize (length l)) (wellFormed n (recordOf l)) (isSound n (recordOf l)) e in
-      let w = whole (length l) (p .0) in
-      let well = formed-decided n (recordOf l) .shows (p .1) in
-      (p .0, sound-decided (w .1) (shaped-bytes n l (w .0)) well .shows (p .2))
+      let admitted = done-admitted e in
+      let ok = admitted-readable l admitted in
+      let yes′ = eq-eqb (firstOf (admissionTests l)) done admitted in
+      let sound = passed (isSound (recordsIn l) (recordOf l)) (sym (by-admission l true yes′) ∙ e) in
+      (ok .size, sound-decided (right-most l (ok .size)) (readable-shaped ok) (readable-formed ok) .shows sound)
 
   -- and on a sound table it is done
   pub sound-done : rightSize (length l) ≡ true → SoundTable (recordsIn l) (recordOf l) → checkOf l ≡ done
   unfolding checkOf
   sound-done size s =
-      let w = whole (length l) size in
+      let shape = shaped-bytes (recordsIn l) l (right-are l size) in
       let formed = formed-decided (recordsIn l) (recordOf l) .passes (s .well-formed) in
-      let sound = sound-decided (w .1) (shaped-bytes (recordsIn l) l (w .0)) (s .well-formed) .passes s in
+      let sound = sound-decided (right-most l size) shape (s .well-formed) .passes s in
       rw (size, formed, sound)

@@ -2,7 +2,7 @@
 -- record above x is looked at once; and the laws that a turn of the code uses. `Route` shows that it says what the
 -- paper's words say. Assumes nothing.
 use Prim.Native.Nat.{ℕ, zero, suc, _≤_, _<_}
-use mathlib.Core.Path.{_≡_, refl, ap, _∙_}
+use mathlib.Core.Path.{_≡_, refl, sym, ap, _∙_}
 use mathlib.Core.Bool.{Bool, true, false, _&&_, not}
 use mathlib.Core.List.{List}
 use native.Mathlib.Omega.{arith}
@@ -119,8 +119,16 @@ module _ (n : ℕ) (R : ℕ → Record) (x : ℕ) where
   pub record-free : R x .card ≡ 0 → recordPasses n R x ≡ true
   record-free e = rw (lt-leb 1 (R x .card) (omega arith))
 
+  -- the climb of a used record, from what is read of it
   pub record-used :
-      (R x .card ≡ 0 → ⊥)
-      → recordPasses n R x ≡ climb R (R x .kind) (R x .readings) (R x .timestamp) n (R x .parent)
+      (kind : ℕ) (q : List ℕ) (t from : ℕ)
+      → (R x .card ≡ 0 → ⊥)
+      → kind ≡ R x .kind
+      → q ≡ R x .readings
+      → t ≡ R x .timestamp
+      → from ≡ R x .parent
+      → climb R kind q t n from ≡ recordPasses n R x
   unfolding climbFrom
-  record-used ne = rw (le-leb 1 (R x .card) (omega arith))
+  record-used kind q t from ne its-kind its-readings its-time its-parent =
+      (λ i. climb R (its-kind i) (its-readings i) (its-time i) n (its-parent i))
+      ∙ sym (rw (le-leb 1 (R x .card) (omega arith)))

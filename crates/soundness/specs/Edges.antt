@@ -11,7 +11,7 @@ use Rattle.number.specs.Number.{numberAt}
 use Rattle.distance.specs.Signature.{readingsAt}
 use Rattle.distance.specs.Kind.{apart}
 use Rattle.distance.specs.Readings.{readingsApart}
-use Rattle.table.specs.Record.{Record, noSlot, recordOf}
+use Rattle.table.specs.Record.{Record, noSlot, recordOf, recordAt}
 use Rattle.table.specs.Table.{rightSize, bytesOf, bytesOfRecord}
 use Rattle.judge.specs.WellFormed.{wellFormed, isFree, isFilled, pastCount, allFormed, distinct, oneKind, oneRoot}
 use Rattle.judge.specs.WellFormed.{allHung, allOwned, allRising}
@@ -48,7 +48,7 @@ afterLine6 radius =
 -- P13: after line 6 the check is done; with record 11's radius set from 30 to 29 it gives 10
 pub P13 : (checkOf (bytesOf (afterLine6 30)) ≡ done) × (checkOf (bytesOf (afterLine6 29)) ≡ LOOSE)
 unfolding checkOf isSound allCovered allNear allIn afterLine6
-    bytesOf bytesOfRecord recordOf rightSize numberAt readingsAt rowTo allTo countTo
+    bytesOf bytesOfRecord recordOf recordAt rightSize numberAt readingsAt rowTo allTo countTo
     wellFormed isFree isFilled pastCount allFormed distinct oneKind oneRoot allHung allOwned allRising
     usedIn kindOf firstFrom under flatMap apart readingsApart sumTo
 P13 = (refl, refl)

@@ -3,6 +3,6 @@ pub mod Soundness
 pub mod Decided
 pub mod Climb
 pub mod Route
-pub mod Stands
+pub mod HoldsCard
 pub mod Check
 pub mod Edges

@@ -1,17 +1,17 @@
 -- "Sound" as a test that computes, in the paper's words; and what the check call gives for every input.
 use Prim.Native.Nat.{ℕ}
 use mathlib.Core.Bool.{Bool, true, _&&_, not}
-use mathlib.Core.List.{List, [], _∷_, tail}
+use mathlib.Core.List.{List, [], _∷_, _++_, tail}
 use lib.Dec.{leb, ltb}
-use lib.ListN.{length}
 use Rattle.places.specs.Choice.{implies}
 use Rattle.distance.specs.Kind.{apart}
 use Rattle.table.specs.Record.{Record, recordOf, children}
-use Rattle.table.specs.Table.{rightSize, recordsIn}
-use Rattle.judge.specs.WellFormed.{eachUsed, wellFormed}
+use Rattle.table.specs.Table.{recordsIn}
+use Rattle.judge.specs.WellFormed.{eachUsed}
 use Rattle.survey.specs.Survey.{usedIn, kindOf}
 use Rattle.tree.specs.View.Under.{under}
-use Rattle.refusals.specs.Refusal.{SIZE, TABLE, LOOSE, firstOf}
+use Rattle.refusals.specs.Refusal.{LOOSE, firstOf}
+use Rattle.admission.specs.Admission.{admissionTests}
 
 -- p holds of every slot in the list
 unfoldable pub allIn : List ℕ → (ℕ → Bool) → Bool
@@ -52,8 +52,4 @@ module _ (n : ℕ) (R : ℕ → Record) where
 -- the refusal of the check call on the bytes l: "10 LOOSE: well formed, not sound"; 0 if the table is sound
 unfoldable pub checkOf : List ℕ → ℕ
 checkOf l =
-    firstOf
-    ((not (rightSize (length l)), SIZE)
-    ∷ (not (wellFormed (recordsIn l) (recordOf l)), TABLE)
-    ∷ (not (isSound (recordsIn l) (recordOf l)), LOOSE)
-    ∷ [])
+    firstOf (admissionTests l ++ ((not (isSound (recordsIn l) (recordOf l)), LOOSE) ∷ []))

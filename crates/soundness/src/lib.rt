@@ -7,20 +7,19 @@ ghost use Prim.Native.Nat.{_<_};
 ghost use Rattle.distance.specs.Kind.{apart};
 ghost use Rattle.table.specs.Record.{recordOf};
 ghost use Rattle.table.specs.Table.{recordsIn};
+ghost use Rattle.table.specs.Stands.{Stands};
 ghost use Rattle.soundness.specs.Soundness.{checkOf};
 ghost use Rattle.soundness.specs.Climb.{siblingPasses, siblingsPass, passes, climb, recordPasses, route};
-ghost use Rattle.soundness.specs.Stands.{Whole, Stands, Linked};
+ghost use Rattle.soundness.specs.HoldsCard.{FormedTable, HoldsCard, CardOrNone};
 use distance::Signature;
 use refusals::DONE;
 use refusals::LOOSE;
-use refusals::SIZE;
-use refusals::TABLE;
 use table::NO_SLOT;
 use table::RECORD;
 
 // If c is older than x, is x no farther from b than from c? From b it is `far`, so b itself costs no second distance.
 fn sibling_ok(t: &[u8], kind: u8, x: Signature, time: u32, far: u32, b: usize, c: usize) -> bool
-    requires { ⌜ (c < recordsIn (now t))
+    requires { ⌜ Stands (now t) c
         × (far ≡ apart kind (x .readings) (recordOf (now t) b .readings)) ⌝ }
     ensures { λ r. ⌜ r ≡ siblingPasses (recordOf (now (t .entry))) kind (x .readings) time b c ⌝ }
 {
@@ -35,14 +34,14 @@ fn sibling_ok(t: &[u8], kind: u8, x: Signature, time: u32, far: u32, b: usize, c
 
 // Is x no farther from b than from any child of p that is older than x? The first i children are looked at.
 fn siblings_ok(t: &[u8], kind: u8, x: Signature, time: u32, far: u32, b: usize, p: usize) -> bool
-    requires { ⌜ Whole (now t)
-        × Stands (now t) p
+    requires { ⌜ FormedTable (now t)
+        × HoldsCard (now t) p
         × (far ≡ apart kind (x .readings) (recordOf (now t) b .readings)) ⌝ }
     ensures { λ r. ⌜ r ≡ siblingsPass (recordOf (now (t .entry))) kind (x .readings) time b p ⌝ }
 {
     let count = table::count_of(t, p) as usize;
     for i in 0..count {
-        let c = table::slot_of(t, p, i) as usize;
+        let c = table::child_of(t, p, i);
         if !sibling_ok(t, kind, x, time, far, b, c) {
             return false;
         }
@@ -52,7 +51,7 @@ fn siblings_ok(t: &[u8], kind: u8, x: Signature, time: u32, far: u32, b: usize, 
 
 // What soundness asks of x and a record b above it: the radius of b, and the siblings of b unless it is the root.
 fn above_ok(t: &[u8], kind: u8, x: Signature, time: u32, b: usize) -> bool
-    requires { ⌜ Whole (now t) × Stands (now t) b ⌝ }
+    requires { ⌜ FormedTable (now t) × HoldsCard (now t) b ⌝ }
     ensures { λ r. ⌜ r ≡ passes (recordOf (now (t .entry))) kind (x .readings) time b ⌝ }
 {
     let far = table::away_from(t, b, kind, x);
@@ -70,7 +69,7 @@ fn above_ok(t: &[u8], kind: u8, x: Signature, time: u32, b: usize) -> bool
 
 // The climb from b to the root. No way up has more steps than the table has records, so the levels never run out.
 fn climb_ok(t: &[u8], kind: u8, x: Signature, time: u32, from: u16, levels: usize) -> bool
-    requires { ⌜ Whole (now t) × Linked (now t) from ⌝ }
+    requires { ⌜ FormedTable (now t) × CardOrNone (now t) from ⌝ }
     ensures { λ r. ⌜ r ≡ climb (recordOf (now (t .entry))) kind (x .readings) time levels from ⌝ }
 {
     let mut b = from;
@@ -92,7 +91,7 @@ fn climb_ok(t: &[u8], kind: u8, x: Signature, time: u32, from: u16, levels: usiz
 // The climb from the record in slot x, if it is used. Its signature is read once; all kinds are equal, so its own is
 // the table's.
 fn record_ok(t: &[u8], x: usize) -> bool
-    requires { ⌜ Whole (now t) × (x < recordsIn (now t)) ⌝ }
+    requires { ⌜ FormedTable (now t) × (x < recordsIn (now t)) ⌝ }
     ensures { λ r. ⌜ r ≡ recordPasses (recordsIn (now (t .entry))) (recordOf (now (t .entry))) x ⌝ }
 {
     if table::card_of(t, x) == 0 {
@@ -108,7 +107,7 @@ fn record_ok(t: &[u8], x: usize) -> bool
 
 // Every used record: the first x slots have passed.
 fn all_ok(t: &[u8]) -> bool
-    requires { ⌜ Whole (now t) ⌝ }
+    requires { ⌜ FormedTable (now t) ⌝ }
     ensures { λ r. ⌜ r ≡ route (recordsIn (now (t .entry))) (recordOf (now (t .entry))) ⌝ }
 {
     let n = t.len() / RECORD;
@@ -124,11 +123,9 @@ fn all_ok(t: &[u8]) -> bool
 pub fn check(t: &[u8]) -> u8
     ensures { λ r. ⌜ r ≡ checkOf (now (t .entry)) ⌝ }
 {
-    if !table::right_size(t) {
-        return SIZE;
-    }
-    if !admission::well_formed(t, t.len() / RECORD) {
-        return TABLE;
+    let refusal = admission::admit(t).refusal;
+    if refusal != DONE {
+        return refusal;
     }
     if !all_ok(t) {
         return LOOSE;

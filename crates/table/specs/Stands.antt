@@ -16,19 +16,19 @@ use Rattle.table.specs.Table.{rightSize, recordsIn, freeTable}
 -- ---- what stands
 
 -- slot s stands in the bytes l
-abbrev pub Stands : List ℕ → ℕ → Type 0
+unfoldable pub Stands : List ℕ → ℕ → Type 0
 Stands l s = placeOf s + recordLength ≤ length l
 
 -- the first n slots do
-abbrev pub StandTo : List ℕ → ℕ → Type 0
+unfoldable pub StandTo : List ℕ → ℕ → Type 0
 StandTo l n = placeOf n ≤ length l
 
 -- the bytes are n records, and nothing besides
-abbrev pub AreRecords : List ℕ → ℕ → Type 0
+unfoldable pub AreRecords : List ℕ → ℕ → Type 0
 AreRecords l n = length l ≡ placeOf n
 
 -- the bytes are whole records
-abbrev pub WholeRecords : List ℕ → Type 0
+unfoldable pub WholeRecords : List ℕ → Type 0
 WholeRecords l = length l % recordLength ≡ 0
 
 -- what a walk asks of a table: whole records, each with at most eight children, and these stand in it

@@ -20,6 +20,16 @@ Inv-loop t n x₀ x =
 abbrev μ-loop : tie.MeasureT-loop
 μ-loop t n x₀ x = n - x
 
+-- ---- stations
+
+abbrev start : tie.At-loop Inv-loop μ-loop → tie.Start Inv-loop μ-loop
+start c = c .before .before
+
+abbrev loop : tie.After-record-ok Inv-loop μ-loop → tie.At-loop Inv-loop μ-loop
+loop c = c .before .before
+
+-- ---- needs
+
 loop-holds : tie.Need-loop-holds Inv-loop μ-loop
 loop-holds c = (search needs, search needs, all-none _)
 
@@ -29,15 +39,16 @@ record-ok-requires c κs = search needs
 returns : tie.Need-returns Inv-loop μ-loop
 unfolding route
 returns c =
-    let a = c .before .before .before .before .before .args in
-    let l = c .before .before .before .loop in
+    let looked = c .before in
+    let a = start (loop looked) .args in
+    let l = loop looked .loop in
     sym
     (all-fails
     (recordsIn (a .t .now))
     (recordPasses (recordsIn (a .t .now)) (recordOf (a .t .now)))
     (l .x)
     (omega arith)
-    (sym (c .before .record-ok .ensures) ∙ not-true (c .before .record-ok .result) (c .if1 .taken)))
+    (sym (looked .record-ok .ensures) ∙ not-true (looked .record-ok .result) (c .if1 .taken)))
 
 add-x : tie.Need-add-x Inv-loop μ-loop
 add-x c = search needs
@@ -47,17 +58,18 @@ loop-less c = search needs
 
 loop-again : tie.Need-loop-again Inv-loop μ-loop
 loop-again c =
-    let l = c .before .before .before .loop in (
+    let looked = c .before in
+    let l = loop looked .loop in (
       omega arith,
       l .inv .1,
       all-more (l .x) true true _ (l .inv .2)
-          (sym (not-false (c .before .record-ok .result) (c .if1 .left)) ∙ c .before .record-ok .ensures),
+          (sym (not-false (looked .record-ok .result) (c .if1 .left)) ∙ looked .record-ok .ensures),
     )
 
 returns-2 : tie.Need-returns-2 Inv-loop μ-loop
 unfolding route
 returns-2 c =
-    let a = c .before .before .before .args in
+    let a = start (c .before) .args in
     let l = c .before .loop in
     let e : l .x ≡ recordsIn (a .t .now) = omega arith in
     l .inv .2 ∙ ap (λ (k : ℕ). allTo k (recordPasses (recordsIn (a .t .now)) (recordOf (a .t .now)))) e

@@ -10,11 +10,18 @@ use Rattle.soundness.specs.Climb.{sibling-same, sibling-younger, sibling
 use Rattle.soundness.proofs.sibling_ok.Statement.{statement}
 use Rattle.soundness.proofs.sibling_ok.Tie as tie
 
+-- ---- stations
+
+abbrev start : tie.After-timestamp-of → tie.Start
+start c = c .before .before .before
+
+-- ---- needs
+
 timestamp-of-requires : tie.Need-timestamp-of-requires
-timestamp-of-requires c κs = omega arith
+timestamp-of-requires c κs = search needs
 
 away-from-requires : tie.Need-away-from-requires
-away-from-requires c κs = omega arith
+away-from-requires c κs = search needs
 
 returns : tie.Need-returns
 returns c =
@@ -23,15 +30,16 @@ returns c =
 
 returns-2 : tie.Need-returns-2
 returns-2 c =
-    let a = c .before .before .before .before .before .args in
+    let b = start (c .before .before) in
+    let a = b .args in
     let R = recordOf (a .t .now) in
     let turned = apart-distance (a .kind) .both-ways (R (a .c) .readings) (a .x .readings) in
-    ap₂ leb (c .before .before .before .before .before .pre .1) (c .away-from .ensures .0 ∙ turned)
+    ap₂ leb (b .pre .1) (c .away-from .ensures .0 ∙ turned)
     ∙ sym (sibling-older R (a .kind) (a .x .readings) (a .time) (a .b) (a .c) (omega arith))
 
 returns-3 : tie.Need-returns-3
 returns-3 c =
-    let a = c .before .before .before .before .args in
+    let a = start (c .before) .args in
     sym (sibling-younger (recordOf (a .t .now)) (a .kind) (a .x .readings) (a .time) (a .b) (a .c) (omega arith))
 
 pub sibling-ok-spec : {M : Type 1} → statement M
