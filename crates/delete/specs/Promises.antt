@@ -15,6 +15,7 @@ use Rattle.table.specs.Records.{records-length}
 use Rattle.table.specs.RoundTrip.{row-fits, rows-back}
 use Rattle.judge.specs.WellFormed.{WellFormed}
 use Rattle.survey.specs.Survey.{slotOfCard}
+use Rattle.refusals.specs.Limits.{mostChildren}
 use Rattle.refusals.specs.Refusal.{done}
 use Rattle.view.specs.Sound.{SoundTable}
 use Rattle.placing.specs.Stored.{Stored}
@@ -22,8 +23,8 @@ use Rattle.newcomer.specs.Newcomer.{Newcomer}
 use Rattle.placing.specs.Changed.{changed}
 use Rattle.refusals.specs.Outcome.{refused}
 use Rattle.delete.specs.Delete.{deleted, refusalOf, deleteOf}
-use Rattle.delete.specs.Leaving.{Held}
-use Rattle.delete.specs.Returning.{deleted-returned, deleted-sound, deleted-stored, deleted-free}
+use Rattle.removal.specs.Leaving.{Held}
+use Rattle.delete.specs.Deleted.{deleted-returned, deleted-sound, deleted-stored, deleted-free}
 use Rattle.delete.specs.Call.{accepted-held, accepted-arity, accepted-clock, accepted-slot}
 use Rattle.delete.specs.Fits.{deleted-fits}
 
@@ -66,7 +67,7 @@ module _ (l : List ℕ) (card arity : ℕ) where
     held : Held (recordsOf l) v
     held = accepted-held l card arity none
 
-    to-8 : arity ≤ 8
+    to-8 : arity ≤ mostChildren
     to-8 = accepted-arity l card arity none
 
     module _ (bytes : Bytes l) where

@@ -1,24 +1,16 @@
 // The slots at or below a record, as keys in age order.
 ghost use mathlib.Core.Path.{_≡_};
 ghost use mathlib.Core.List.{List, map};
-ghost use Prim.Native.Nat.{_+_, _*_, _≤_, _<_};
-ghost use lib.ListN.{length, set, take};
+ghost use Prim.Native.Nat.{_+_, _≤_};
+ghost use lib.ListN.{length, take};
 ghost use Rattle.order.specs.Order.{inOrder};
 ghost use Rattle.refusals.specs.Limits.{mostRecords};
 ghost use Rattle.table.specs.Record.{recordOf, largestTable};
 ghost use Rattle.table.specs.Stands.{Stands, Walkable};
-ghost use Rattle.delete.specs.Gather.{Gathered, keyOf, slotsUnder, gathered};
-
-// A key is a timestamp and a slot: the timestamp counts in steps of this many.
-const SLOTS: u64 = 65536;
-
-// Writes the key of slot s at place m.
-fn note_key(t: &[u8], s: usize, keys: &mut [u64], m: usize)
-    requires { ⌜ Stands (now t) s × (length (now t) ≤ largestTable) × (m < length (now keys)) ⌝ }
-    ensures { λ _. ⌜ now (keys .exit) ≡ set (now (keys .entry)) m (keyOf (recordOf (now (t .entry))) s) ⌝ }
-{
-    keys[m] = table::timestamp_of(t, s) as u64 * SLOTS + s as u64;
-}
+ghost use Rattle.back.specs.Age.{keyOf};
+ghost use Rattle.delete.specs.Loop.Gather.{Gathered, slotsUnder, gathered};
+use back::note_key;
+use back::oldest_first;
 
 // How many children the record in slot s has.
 fn child_count(t: &[u8], s: usize) -> usize
@@ -58,8 +50,7 @@ pub(crate) fn in_age_order(t: &[u8], v: usize, used: usize, keys: &mut [u64]) ->
     ensures { λ r. ⌜ (r ≡ length (slotsUnder (recordOf (now (t .entry))) used v))
         × (take r (now (keys .exit)) ≡ inOrder (map (keyOf (recordOf (now (t .entry)))) (slotsUnder (recordOf (now (t .entry))) used v))) ⌝ }
 {
-    let mut room = [0u64; 1024];
     let m = gather(t, v, keys, 0, used);
-    order::sort(&mut keys[..m], &mut room);
+    oldest_first(&mut keys[..m]);
     m
 }

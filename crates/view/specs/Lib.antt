@@ -5,5 +5,6 @@ pub mod Children
 pub mod Shaped
 pub mod Survey
 pub mod Formed
+pub mod Freed
 pub mod Readable
 pub mod Sound

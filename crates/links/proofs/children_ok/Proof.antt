@@ -2,6 +2,7 @@
 -- `before` is the last one's timestamp, at first the record's own. Assumes nothing.
 use Prim.Native.Nat.{_≤_, _-_}
 use Rattle.table.specs.Record.{recordOf}
+use Rattle.table.specs.Stands.{Stands, stands-below}
 use Rattle.links.specs.Loop.Children.{LinkedTo, linked-start, linked-out, linked-not, linked-turn, linked-end}
 use native.Mathlib.Omega.{arith}
 use borrow.Author.Needs.{needs}
@@ -26,6 +27,12 @@ start c = loop c .before .before
 abbrev found : tie.After-parent-of Inv-loop μ-loop → tie.After-child-of Inv-loop μ-loop
 found c = c .before .before .before
 
+-- a child that is in the table stands in it
+stands : (c : tie.Else1 Inv-loop μ-loop) → Stands (start (c .before) .args .t .now) (c .before .child-of .result)
+stands c =
+    let b = start (c .before) in
+    stands-below (b .args .t .now) (b .args .n) (c .before .child-of .result) (b .pre .0) (c .if1 .left)
+
 -- ---- needs
 
 loop-holds : tie.Need-loop-holds Inv-loop μ-loop
@@ -35,7 +42,9 @@ loop-holds c = (
 )
 
 child-of-requires : tie.Need-child-of-requires Inv-loop μ-loop
-child-of-requires c κs = search needs
+child-of-requires c κs =
+    let b = c .before .before .before in
+    (stands-below (b .args .t .now) (b .args .n) (b .args .s) (b .pre .0) (b .pre .1), omega (arith, b .pre .3))
 
 returns : tie.Need-returns Inv-loop μ-loop
 returns c =
@@ -54,10 +63,10 @@ returns c =
     (omega arith)
 
 timestamp-of-requires : tie.Need-timestamp-of-requires Inv-loop μ-loop
-timestamp-of-requires c κs = search needs
+timestamp-of-requires c κs = stands c
 
 parent-of-requires : tie.Need-parent-of-requires Inv-loop μ-loop
-parent-of-requires c κs = search needs
+parent-of-requires c κs = stands (c .before)
 
 cast-if2 : tie.Need-cast-if2 Inv-loop μ-loop
 cast-if2 c = search needs

@@ -6,6 +6,7 @@ use mathlib.Core.Bool.{Bool, _&&_, _||_}
 use mathlib.Core.Logic.{⊎-elim}
 use lib.Dec.{eqb}
 use Rattle.table.specs.Record.{Record, Used, recordOf, noSlot}
+use Rattle.table.specs.Stands.{Stands, stands-below}
 use Rattle.judge.specs.WellFormed.{isFilled}
 use Rattle.judge.specs.Counted.{allLinked}
 use Rattle.links.specs.Loop.Seen.{SeenBefore, seen-most, seen-free, seen-used, byte-most, told}
@@ -27,6 +28,10 @@ kinded c = c .before .before .before
 
 abbrev records : tie.Start → ℕ → Record
 records b = recordOf (b .args .t .now)
+
+-- the record in slot s stands
+here : (b : tie.Start) → Stands (b .args .t .now) (b .args .s)
+here b = stands-below (b .args .t .now) (b .args .n) (b .args .s) (b .pre .1 .0) (b .pre .1 .2)
 
 -- the record in slot s is used where its fields are read
 in-use : (c : tie.Else1) → Used (records (start (c .before)) (start (c .before) .args .s))
@@ -54,10 +59,10 @@ fitting c =
 -- ---- needs
 
 card-of-requires : tie.Need-card-of-requires
-card-of-requires c κs = search needs
+card-of-requires c κs = here (c .before)
 
 is-free-requires : tie.Need-is-free-requires
-is-free-requires c κs = search needs
+is-free-requires c κs = here (start (c .before))
 
 earlier-requires : tie.Need-earlier-requires
 earlier-requires c κs = search needs
@@ -79,16 +84,16 @@ returns c =
     (c .earlier .ensures)
 
 kind-of-requires : tie.Need-kind-of-requires
-kind-of-requires c κs = search needs
+kind-of-requires c κs = here (start (c .before))
 
 count-of-requires : tie.Need-count-of-requires
-count-of-requires c κs = search needs
+count-of-requires c κs = here (start (c .before .before))
 
 timestamp-of-requires : tie.Need-timestamp-of-requires
-timestamp-of-requires c κs = search needs
+timestamp-of-requires c κs = here (start (c .before .before .before))
 
 parent-of-requires : tie.Need-parent-of-requires
-parent-of-requires c κs = search needs
+parent-of-requires c κs = here (start (c .before .before .before .before))
 
 record-ok-requires : tie.Need-record-ok-requires
 record-ok-requires c κs =

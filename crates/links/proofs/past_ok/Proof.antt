@@ -18,6 +18,24 @@ use Rattle.links.proofs.past_ok.Tie as tie
 slots-fit : (l : List ℕ) (s : ℕ) → Bytes l → (i : ℕ) → i < 8 → slot (recordOf l s) i < 65536
 slots-fit l s h i b = record-fits l s h .slots i
 
+-- ---- stations
+
+abbrev start : tie.After-four-slots → tie.Start
+start c = c .before .before .before
+
+-- the floors of the record's own count
+first-floor : (b : tie.Start) →
+    getD (b .args .first .now) (b .args .count) 0
+    ≡ getD firstFloors (recordOf (b .args .t .now) (b .args .s) .count) 0
+first-floor b i = getD (b .pre .1 .0 i) (b .pre .0 .1 i) 0
+
+last-floor : (b : tie.Start) →
+    getD (b .args .last .now) (b .args .count) 0
+    ≡ getD lastFloors (recordOf (b .args .t .now) (b .args .s) .count) 0
+last-floor b i = getD (b .pre .1 .1 i) (b .pre .0 .1 i) 0
+
+-- ---- needs
+
 mul-some : tie.Need-mul-some
 mul-some c = search needs
 
@@ -25,7 +43,7 @@ element-copy-out-some : tie.Need-element-copy-out-some
 element-copy-out-some c = search needs
 
 four-slots-requires : tie.Need-four-slots-requires
-four-slots-requires c κs = search needs
+four-slots-requires c κs = (c .before .before .pre .0 .0, omega arith)
 
 mul-others : tie.Need-mul-others
 mul-others c = search needs
@@ -34,22 +52,17 @@ element-copy-out-others : tie.Need-element-copy-out-others
 element-copy-out-others c = search needs
 
 four-slots-requires-2 : tie.Need-four-slots-requires-2
-four-slots-requires-2 c κs = search needs
+four-slots-requires-2 c κs = (start (c .before) .pre .0 .0, omega arith)
 
 returns : tie.Need-returns
 returns c =
     let one = c .before .before in
-    let known = one .before .before .shared-slice-known .given in
-    let b = one .before .before .before in
+    let b = start one in
     let r = recordOf (b .args .t .now) (b .args .s) in
-    let count : b .args .count ≡ r .count = b .pre .0 .1 in
-    let first : getD (b .args .first .now) (b .args .count) 0 ≡ getD firstFloors (r .count) 0 =
-    λ i. getD (b .pre .1 .0 i) (count i) 0 in
-    let last : getD (b .args .last .now) (b .args .count) 0 ≡ getD lastFloors (r .count) 0 =
-    λ i. getD (b .pre .1 .1 i) (count i) 0 in
-    (λ i. leb (first i) (one .four-slots .ensures i) && leb (last i) (c .four-slots2 .ensures i))
-    ∙ past-told r (slots-fit (b .args .t .now) (b .args .s) (λ i. omega (arith, known i)))
-    (omega (arith, b .pre .0 .2))
+    let known = one .before .before .shared-slice-known .given in
+    (λ i.
+    leb (first-floor b i) (one .four-slots .ensures i) && leb (last-floor b i) (c .four-slots2 .ensures i))
+    ∙ past-told r (slots-fit (b .args .t .now) (b .args .s) (λ i. omega (arith, known i))) (omega (arith, b .pre .0 .1, b .pre .0 .2))
 
 pub past-ok-spec : {M : Type 1} → statement M
 past-ok-spec =

@@ -84,7 +84,7 @@ module _ (d : List ℕ → List ℕ → ℕ) (arity s : ℕ) (x : Newcomer) (t d
         (λ a n. ap (λ (r : Record). r .readings) (h .same a n))
         depth root (u .root-stays)
 
-    stays : (y : ℕ) → y ∈ path d (viewOf (at D)) (x .readings) arity depth root → waits y → ⊥
+    pub stays : (y : ℕ) → y ∈ path d (viewOf (at D)) (x .readings) arity depth root → waits y → ⊥
     stays y i =
         path-in d (viewOf (at D)) (viewOf (at C)) (x .readings) arity (λ a. waits a → ⊥) (u .children-stay)
         (λ a n. ap children (h .same a n))

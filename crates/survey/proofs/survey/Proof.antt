@@ -1,7 +1,9 @@
 -- `survey::survey` meets its contract. The loop's invariant: the records from k on are seen. Assumes nothing.
+use Prim.Native.Nat.{_-_}
 use mathlib.Core.Path.{_≡_, ap}
 use Rattle.table.specs.Record.{Record, recordOf}
 use Rattle.table.specs.Same.{past-are}
+use Rattle.table.specs.Stands.{are-stands}
 use Rattle.survey.specs.Pass.{Passed, pass-start, pass-down, pass-end}
 use native.Mathlib.Omega.{arith}
 use borrow.Author.Needs.{needs}
@@ -24,7 +26,10 @@ sub-k : tie.Need-sub-k Inv-loop μ-loop
 sub-k c = search needs
 
 note-requires : tie.Need-note-requires Inv-loop μ-loop
-note-requires c κs = search needs
+note-requires c κs =
+    let l = c .before .loop in
+    let b = c .before .before .before in
+    (are-stands (b .args .t .now) (b .args .n) (l .k - 1) (b .pre) (omega (arith, l .inv .left)), omega (arith, l .inv .room))
 
 loop-less : tie.Need-loop-less Inv-loop μ-loop
 loop-less c = search needs

@@ -5,7 +5,9 @@ use mathlib.Core.Path.{_≡_, refl, sym, _∙_}
 use lib.ListN.{length, getD, set, length-set}
 use lib.Seq.{getD-set-same, getD-set-other, length-take-le}
 use borrow.Author.Count.{below-more}
+use Rattle.refusals.specs.Limits.{mostRecords}
 use Rattle.table.specs.Record.{recordOf}
+use Rattle.table.specs.Stands.{stands-below}
 use Rattle.admission.specs.Key.{keyOf, gathered}
 use native.Mathlib.Omega.{arith}
 use borrow.Author.Needs.{needs}
@@ -14,16 +16,28 @@ use Rattle.admission.proofs.keys.by_order.Tie as tie
 
 abbrev Inv-loop : tie.InvT-loop
 Inv-loop t n key keys₀ s₀ keys s =
-    (s ≤ n) × (length keys ≡ 1024) × ((k : ℕ) → k < s → getD keys k 0 ≡ keyOf key (recordOf t k))
+    (s ≤ n) × (length keys ≡ mostRecords) × ((k : ℕ) → k < s → getD keys k 0 ≡ keyOf key (recordOf t k))
 
 abbrev μ-loop : tie.MeasureT-loop
 μ-loop t n key keys₀ s₀ keys s = n - s
+
+-- ---- stations: the start, seen from the loop, and the loop, seen from where the row is lent
+
+abbrev start : tie.At-loop Inv-loop μ-loop → tie.Start Inv-loop μ-loop
+start c = c .before .before
+
+abbrev gathered-at : tie.After-keys Inv-loop μ-loop → tie.At-loop Inv-loop μ-loop
+gathered-at c = c .before .before
+
+-- ---- needs
 
 loop-holds : tie.Need-loop-holds Inv-loop μ-loop
 loop-holds c = (omega arith, refl, λ k b. absurd (omega arith))
 
 key-of-requires : tie.Need-key-of-requires Inv-loop μ-loop
-key-of-requires c κs = search needs
+key-of-requires c κs =
+    let b = start (c .before) in
+    stands-below (b .args .t .now) (b .args .n) (c .before .loop .s) (b .pre .0) (c .loop-test .taken)
 
 mul-keys : tie.Need-mul-keys Inv-loop μ-loop
 mul-keys c = search needs
@@ -40,7 +54,7 @@ loop-less c = search needs
 loop-again : tie.Need-loop-again Inv-loop μ-loop
 loop-again c =
     let l = c .before .before .loop in
-    let a = c .before .before .before .before .args in (
+    let a = start (c .before .before) .args in (
       omega arith,
       length-set (l .keys) (l .s) (c .key-of .result) ∙ l .inv .1,
       below-more
@@ -54,17 +68,17 @@ array-share-prefix-keys : tie.Need-array-share-prefix-keys Inv-loop μ-loop
 array-share-prefix-keys c = search needs
 
 slice-aggregate-by-order : tie.Need-slice-aggregate-by-order Inv-loop μ-loop
-slice-aggregate-by-order c = sym (length-take-le _ (c .before .before .loop .keys) (omega arith))
+slice-aggregate-by-order c = sym (length-take-le _ (gathered-at c .loop .keys) (omega arith))
 
 by-order-requires : tie.Need-by-order-requires Inv-loop μ-loop
 by-order-requires c κs =
-    let a = c .before .before .before .before .args in
-    omega (arith, length-take-le (a .n) (c .before .before .loop .keys) (omega arith))
+    let a = start (gathered-at c) .args in
+    omega (arith, length-take-le (a .n) (gathered-at c .loop .keys) (omega arith))
 
 returns : tie.Need-returns Inv-loop μ-loop
 returns c =
-    let a = c .before .before .before .before .before .args in
-    let l = c .before .before .before .loop in
+    let a = start (gathered-at (c .before)) .args in
+    let l = gathered-at (c .before) .loop in
     c .by-order .ensures
     ∙ gathered
     (a .n)

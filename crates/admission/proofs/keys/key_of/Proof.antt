@@ -7,13 +7,13 @@ enum-told : tie.Need-enum-told
 enum-told c = search needs
 
 card-of-requires : tie.Need-card-of-requires
-card-of-requires c κs = search needs
+card-of-requires c κs = c .before .before .before .pre
 
 enum-told-2 : tie.Need-enum-told-2
 enum-told-2 c = search needs
 
 timestamp-of-requires : tie.Need-timestamp-of-requires
-timestamp-of-requires c κs = search needs
+timestamp-of-requires c κs = c .before .before .before .pre
 
 returns : tie.Need-returns
 returns c = rw (c .before .enum-told .given .1) (c .card-of .ensures)

@@ -3,7 +3,8 @@
 use Prim.Native.Nat.{_-_, _≤_}
 use mathlib.Core.Path.{_≡_, refl, sym, _∙_}
 use lib.ListN.{length, getD, drop, length-set}
-use Rattle.delete.specs.Clock.{slotIn, marked, marked-all, marked-more, marked-end}
+use Rattle.back.specs.Age.{slotIn}
+use Rattle.delete.specs.Loop.Clock.{marked, marked-all, marked-more, marked-end}
 use native.Mathlib.Omega.{arith}
 use borrow.Author.Needs.{needs}
 use Rattle.delete.proofs.clock.mark.Statement.{statement}
