@@ -12,6 +12,7 @@ use Rattle.tree.specs.View.{distanceCount}
 use Rattle.tree.specs.Insert.{path, last}
 use Rattle.view.specs.View.{viewOf}
 use Rattle.newcomer.specs.Newcomer.{Newcomer, adopting, fresh}
+use Rattle.descent.specs.Descent.{raisedAlong}
 pub mod Agree
 pub mod Row
 pub mod Hanging
@@ -20,9 +21,6 @@ pub mod Settled
 pub mod Root
 pub mod Child
 pub mod Keeps
--- ---- the records on the way: the radii along the walk are raised, and the newcomer becomes a child (`adopting`)
-
-pub use Rattle.descent.specs.Descent.{raisedAlong}
 
 -- ---- the rule
 
