@@ -10,7 +10,7 @@ passed=0 failed=0
 
 # Where the record's length may be written as a number: the files that say where a record stands. Elsewhere it has a
 # name, so that there is one place to change.
-layout='crates/table/specs/(Record|Records|Same|Laws|RoundTrip|Size|Table)\.antt'
+layout='crates/table/specs/Record\.antt'
 # Crates in which 64 is the number of bits of a word.
 words='crates/(number|distance|order|places)/'
 # Crates that may have a public function and no edit, each with its reason: 'NAME: REASON', one to a line.

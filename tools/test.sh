@@ -53,6 +53,10 @@ say "the rules of the house"
 bash tools/house.sh 2>&1 | tee "$logs/house"
 add "${PIPESTATUS[0]}" "$logs/house"
 
+say "the files that a reader has to believe"
+bash tools/believed.sh 2>&1 | tee "$logs/believed"
+add "${PIPESTATUS[0]}" "$logs/believed"
+
 say "the kit is whole, and how fast the machine is"
 yardstick
 
