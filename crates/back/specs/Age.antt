@@ -1,5 +1,5 @@
--- "oldest first by their old timestamps": slots in age order. A slot's key is its record's timestamp and then the slot, so
--- keys in rising order are slots in age order, and a key tells its slot. Assumes nothing.
+-- "oldest first by their old timestamps": slots in age order. A slot's key is its record's timestamp and then the slot,
+-- so keys in rising order are slots in age order, and a key tells its slot. Assumes nothing.
 use Prim.Native.Nat.{ℕ, suc, _+_, _*_, _%_, _≤_, _<_}
 use mathlib.Core.Path.{_≡_, refl, sym, ap, _∙_}
 use mathlib.Core.Bool.{Bool, false, cond}

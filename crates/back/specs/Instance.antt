@@ -1,5 +1,5 @@
--- Two ways to rows over which slots may go back: some slots of a well-formed table wait, and the rows hold only what the
--- table held elsewhere (`parted-returnable`: a deletion, or several); or all its cards wait, and the rows are free
+-- Two ways to rows over which slots may go back: some slots of a well-formed table wait, and the rows hold only what
+-- the table held elsewhere (`parted-returnable`: a deletion, or several); or all its cards wait, and the rows are free
 -- (`emptied-returnable`: the table is built afresh). Assumes nothing.
 use Prim.Native.Nat.{ℕ, _≤_, _<_}
 use mathlib.Core.Path.{_≡_, sym, ap, _∙_}

@@ -1,6 +1,6 @@
--- All that waited are back: the rows are well formed, sound if those before were, and hold exactly what those before held
--- and what the waiting records brought (`putBack-returned`, `putBack-sound`, `putBack-stored`). By induction on those that
--- wait. Assumes nothing.
+-- All that waited are back: the rows are well formed, sound if those before were, and hold exactly what those before
+-- held and what the waiting records brought (`putBack-returned`, `putBack-sound`, `putBack-stored`). By induction on
+-- those that wait. Assumes nothing.
 use Prim.Native.Nat.{ℕ, _+_, _≤_}
 use mathlib.Core.Path.{_≡_, refl, sym, ap, _∙_}
 use mathlib.Core.Logic.{_⊎_, inl, inr, _↔_}
@@ -106,7 +106,8 @@ module _ {n kind arity : ℕ} {old : List Record} (to-8 : arity ≤ mostChildren
       let next = placed d arity s x (p .rows) .rows in
       let new = placed-settled d (returnable-ready to-8 r) in
       let rest = putBack-returned d ss (oneBack d arity old s p) (returnable-next to-8 r d) in
-      let here : brought (at next s) ≡ x = brought-is (at next s) x (new .card-new) (new .kind-new) (new .readings-new) in
+      let here : brought (at next s) ≡ x =
+      brought-is (at next s) x (new .card-new) (new .kind-new) (new .readings-new) in
       record {
         length-is = rest .length-is;
         shaped = rest .shaped;

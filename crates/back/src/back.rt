@@ -3,13 +3,10 @@ ghost use mathlib.Core.Path.{_≡_};
 ghost use mathlib.Core.List.{map};
 ghost use lib.Dec.{eqb};
 ghost use Rattle.places.specs.Choice.{pick};
-ghost use Rattle.distance.specs.Kind.{apart};
 ghost use Rattle.table.specs.Stands.{Stands};
-ghost use Rattle.table.specs.Table.{recordsOf, at};
-ghost use Rattle.newcomer.specs.Newcomer.{brought};
 ghost use Rattle.placing.specs.Hang.{Hangable, leaves};
 ghost use Rattle.back.specs.Age.{slotIn};
-ghost use Rattle.back.specs.Loop.Puts.{puts};
+ghost use Rattle.back.specs.Loop.Puts.{putsIn};
 ghost use Rattle.back.specs.Loop.Pending.{Pending, restBack};
 use super::SLOTS;
 use table::NO_SLOT;
@@ -33,7 +30,7 @@ fn put_one(
 ) -> u32
     requires { ⌜ Stands (now t) s × ((depth ≡ 0 → ⊥) → Hangable (now t) kind arity s root depth) ⌝ }
     ensures { λ r. ⌜ leaves (now (t .exit)) r
-        ≡ puts (apart kind) arity s (brought (at (recordsOf (now (t .entry))) s)) (recordsOf (now (t .entry))) depth root timestamp ⌝ }
+        ≡ putsIn (now (t .entry)) kind arity s root depth timestamp ⌝ }
 {
     if depth == 0 {
         newcomer::seat(t, s, timestamp, NO_SLOT);
@@ -43,8 +40,8 @@ fn put_one(
 }
 
 // The slots in these keys wait: they hold what they held, but `depth` other records alone are in the tree below `root`,
-// and `last` is the largest timestamp there. They go back in the keys' order. At each turn those in the first i keys are
-// back, and what is left to do leads to the same end. Returns the distances worked out.
+// and `last` is the largest timestamp there. They go back in the keys' order. At each turn those in the first i keys
+// are back, and what is left to do leads to the same end. Returns the distances worked out.
 pub fn put_back(
     t: &mut [u8],
     keys: &[u64],

@@ -146,7 +146,8 @@ module _ (l : List ℕ) (card arity : ℕ) where
       record {
         small = rw (records-length l) (right-most l (ok .size));
         shaped = rw (records-length l) (subst (λ (R : ℕ → Record). Shaped n R) (sym same) (readable-shaped ok));
-        well-formed = rw (records-length l) (subst (λ (R : ℕ → Record). WellFormed n R) (sym same) (readable-formed ok));
+        well-formed =
+            rw (records-length l) (subst (λ (R : ℕ → Record). WellFormed n R) (sym same) (readable-formed ok));
         used = omega (arith, right-card card arity right, card-here, ap (λ (R : ℕ → Record). R v .card) same);
       }
 

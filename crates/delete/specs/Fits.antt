@@ -1,5 +1,5 @@
--- A deletion leaves fields that fit their bytes, so the bytes afterwards hold exactly the records that the rule gives. What
--- stays fits as it did, and putting back keeps that. Assumes nothing.
+-- A deletion leaves fields that fit their bytes, so the bytes afterwards hold exactly the records that the rule gives.
+-- What stays fits as it did, and putting back keeps that. Assumes nothing.
 use Prim.Native.Nat.{ℕ, _+_, _≤_, _<_}
 use mathlib.Core.Path.{_≡_}
 use mathlib.Core.Bool.{false}

@@ -1,7 +1,7 @@
--- What the call works out before it writes (`Planned`), and that it is what the definition asks for: the keys in age order
--- are the deleted card's and those of the slots that wait, the largest timestamp is that of the records that stay, and
--- the depth theirs. So the bytes from which v has left are those in which the others wait (`plan-pending`). Assumes
--- nothing.
+-- What the call works out before it writes (`Planned`), and that it is what the definition asks for: the keys in age
+-- order are the deleted card's and those of the slots that wait, the largest timestamp is that of the records that
+-- stay, and the depth theirs. So the bytes from which v has left are those in which the others wait (`plan-pending`).
+-- Assumes nothing.
 use Prim.Native.Nat.{ℕ, suc, _+_, _-_, _≤_, _<_}
 use mathlib.Core.Path.{_≡_, refl, sym, ap, subst, _∙_}
 use mathlib.Core.Bool.{true, false, _&&_}
@@ -36,7 +36,7 @@ use Rattle.table.specs.Stands.{
 }
 use Rattle.judge.specs.WellFormed.{WellFormed}
 use Rattle.survey.specs.declared.Findings.{Findings}
-use Rattle.survey.specs.Pass.{Answers}
+use Rattle.survey.specs.Answers.{Answers}
 use Rattle.survey.specs.Survey.{usedIn, rootOf, kindOf, slotOfCard, largestTimestamp}
 use Rattle.survey.specs.Laws.{usedIn-most}
 use Rattle.admission.specs.declared.Admitted.{Admitted}
@@ -310,7 +310,9 @@ module _ {l : List ℕ} {v : ℕ} {found : Findings} (d : Deletable l v found) w
           last-is =
               largest
               ∙ of-rows (λ k R. largestTimestamp k (unmarked (marked (take m row) noMarks) R))
-              ∙ ap (λ (q : List ℕ). largestTimestamp (length (recordsOf l)) (unmarked (marked q noMarks) (at (recordsOf l))))
+              ∙ ap
+              (λ (q : List ℕ).
+              largestTimestamp (length (recordsOf l)) (unmarked (marked q noMarks) (at (recordsOf l))))
               ordered-keys
               ∙ staying-largest (d .held);
         }

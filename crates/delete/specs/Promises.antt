@@ -45,7 +45,9 @@ module _ (l : List ℕ) (card arity : ℕ) where
   unfolding deleteOf refused changed
   refused-touches-nothing no′ = go (eqb (refusalOf l card arity) done) no′
     where
-      go : (b : Bool) → (pick b (changed (deleted arity (recordsOf l) v)) (refused (refusalOf l card arity) l) .refusal ≡ done → ⊥)
+      go :
+          (b : Bool)
+          → (pick b (changed (deleted arity (recordsOf l) v)) (refused (refusalOf l card arity) l) .refusal ≡ done → ⊥)
           → (pick b (changed (deleted arity (recordsOf l) v)) (refused (refusalOf l card arity) l) .count ≡ 0)
           × (pick b (changed (deleted arity (recordsOf l) v)) (refused (refusalOf l card arity) l) .table ≡ l)
       go true n = absurd (n refl)
@@ -76,7 +78,8 @@ module _ (l : List ℕ) (card arity : ℕ) where
       unfolding deleteOf changed
       holds-deleted =
           rw (eq-eqb (refusalOf l card arity) done none)
-          (rows-back (deleted arity (recordsOf l) v .rows) (deleted-fits held to-8 (row-fits l bytes) (accepted-clock l card arity none)))
+          (rows-back (deleted arity (recordsOf l) v .rows)
+          (deleted-fits held to-8 (row-fits l bytes) (accepted-clock l card arity none)))
 
       pub keeps-size : recordsIn (deleteOf l card arity .table) ≡ recordsIn l
       keeps-size =
@@ -97,7 +100,8 @@ module _ (l : List ℕ) (card arity : ℕ) where
       keeps-formed = held-by WellFormed (deleted-returned held to-8 .well-formed)
 
       -- a sound table stays sound, whatever the arity
-      pub keeps-sound : SoundTable (recordsIn l) (tableOf l) → SoundTable (recordsIn l) (tableOf (deleteOf l card arity .table))
+      pub keeps-sound :
+          SoundTable (recordsIn l) (tableOf l) → SoundTable (recordsIn l) (tableOf (deleteOf l card arity .table))
       keeps-sound ok =
           held-by SoundTable
           (deleted-sound held to-8 (subst (λ (k : ℕ). SoundTable k (tableOf l)) (sym (records-length l)) ok))

@@ -44,7 +44,8 @@ fn staying_timestamp(t: &[u8], marks: &[u8], s: usize) -> u32
     table::timestamp_of(t, s)
 }
 
-// The largest timestamp of the records whose slots are not marked, 0 if there is none. At each turn it is that of the first s.
+// The largest timestamp of the records whose slots are not marked, 0 if there is none. At each turn it is that of the
+// first s.
 pub(crate) fn largest_staying(t: &[u8], marks: &[u8], n: usize) -> u32
     requires { ⌜ StandTo (now t) n × (n ≤ length (now marks)) ⌝ }
     ensures { λ r. ⌜ r ≡ largestTimestamp n (unmarked (now (marks .entry)) (recordOf (now (t .entry)))) ⌝ }

@@ -1,14 +1,11 @@
 // The slots at or below a record, as keys in age order.
 ghost use mathlib.Core.Path.{_≡_};
-ghost use mathlib.Core.List.{List, map};
 ghost use Prim.Native.Nat.{_+_, _≤_};
 ghost use lib.ListN.{length, take};
-ghost use Rattle.order.specs.Order.{inOrder};
 ghost use Rattle.refusals.specs.Limits.{mostRecords};
 ghost use Rattle.table.specs.Record.{recordOf, largestTable};
 ghost use Rattle.table.specs.Stands.{Stands, Walkable};
-ghost use Rattle.back.specs.Age.{keyOf};
-ghost use Rattle.delete.specs.Loop.Gather.{Gathered, slotsUnder, gathered};
+ghost use Rattle.delete.specs.Loop.Gather.{Gathered, slotsUnder, keysUnder, gathered};
 use back::note_key;
 use back::oldest_first;
 
@@ -20,8 +17,8 @@ fn child_count(t: &[u8], s: usize) -> usize
     table::count_of(t, s) as usize
 }
 
-// Writes the keys of slot a and of all below it from place m on, and returns the place after the last; `left` is the depth left.
-// At each turn the keys of a and of what stands at or below its first k children are written.
+// Writes the keys of slot a and of all below it from place m on, and returns the place after the last; `left` is the
+// depth left. At each turn the keys of a and of what stands at or below its first k children are written.
 fn gather(t: &[u8], a: usize, keys: &mut [u64], m: usize, left: usize) -> usize
     requires { ⌜ Walkable (now t) × Stands (now t) a × (length (now t) ≤ largestTable)
         × (m + length (slotsUnder (recordOf (now t)) left a) ≤ length (now keys)) ⌝ }
@@ -43,12 +40,13 @@ fn gather(t: &[u8], a: usize, keys: &mut [u64], m: usize, left: usize) -> usize
     at
 }
 
-// The keys of slot v and of all below it, in age order: v's own comes first, since all below it are younger. Returns how many.
+// The keys of slot v and of all below it, in age order: v's own comes first, since all below it are younger. Returns
+// how many.
 pub(crate) fn in_age_order(t: &[u8], v: usize, used: usize, keys: &mut [u64]) -> usize
     requires { ⌜ Walkable (now t) × Stands (now t) v × (length (now t) ≤ largestTable)
         × (length (slotsUnder (recordOf (now t)) used v) ≤ length (now keys)) × (length (now keys) ≤ mostRecords) ⌝ }
     ensures { λ r. ⌜ (r ≡ length (slotsUnder (recordOf (now (t .entry))) used v))
-        × (take r (now (keys .exit)) ≡ inOrder (map (keyOf (recordOf (now (t .entry)))) (slotsUnder (recordOf (now (t .entry))) used v))) ⌝ }
+        × (take r (now (keys .exit)) ≡ keysUnder (recordOf (now (t .entry))) used v) ⌝ }
 {
     let m = gather(t, v, keys, 0, used);
     oldest_first(&mut keys[..m]);

@@ -1,5 +1,5 @@
--- A record's removal, with all that stands below it, is the tree's removal (`removed-is`). So what stays is well formed,
--- and sound if it was; where the root leaves, a free table is left. Assumes nothing.
+-- A record's removal, with all that stands below it, is the tree's removal (`removed-is`). So what stays is well
+-- formed, and sound if it was; where the root leaves, a free table is left. Assumes nothing.
 use Prim.Native.Nat.{ℕ, _≤_, _<_}
 use mathlib.Core.Path.{_≡_, refl, sym, ap, _∙_}
 use mathlib.Core.List.{List, List·Memᴰ·not-nil}
@@ -173,8 +173,8 @@ module _ {rows : List Record} {v : ℕ} (held : Held rows v) where
     | no nz ↦
         let root = rootOf-is (length rows) (at rows) (held .well-formed) (held-some held) in
         let same : v ≡ rootOf (length rows) (at rows) =
-        held .well-formed .one-root v (rootOf (length rows) (at rows)) (held-within held) (root .0) (held .used) (root .1)
-        e (root .2) in
+        held .well-formed .one-root v (rootOf (length rows) (at rows)) (held-within held) (root .0) (held .used)
+        (root .1) e (root .2) in
         let top : Formed (viewOf (at rows)) (length rows) v = rw same (held-seen held) in
         let z = usedIn-some (length rows) (at (removed rows v)) (omega arith) in
         absurd (removed-root top removed-is (z .0) (z .2))

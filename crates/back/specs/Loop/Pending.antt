@@ -97,7 +97,8 @@ module _ {l : List ℕ} {ss : List ℕ} {kind arity root depth last : ℕ}
     | yes i ↦ rw (← records-at l (now .whole) a) (now .turn .linked a i)
     | no m ↦
         let r = now .turn .returnable in
-        rw (← records-at l (now .whole) a, ← freed-out ss (recordsOf l) a m) (formed-linked (r .shaped) (r .well-formed) a)
+        rw (← records-at l (now .whole) a, ← freed-out ss (recordsOf l) a m)
+        (formed-linked (r .shaped) (r .well-formed) a)
   ]
 
   pub pending-walkable : Walkable l

@@ -11,6 +11,7 @@ use lib.ListN.{length, set, length-set}
 use lib.Seq.{getD-set-same, getD-set-other, ext-getD}
 use borrow.Author.Tests.{eq-eqb, ne-eqb}
 use Rattle.places.specs.Choice.{pick}
+use Rattle.distance.specs.Kind.{apart}
 use Rattle.refusals.specs.Limits.{mostChildren}
 use Rattle.table.specs.Record.{Record, Used, free, recordOf, noSlot}
 use Rattle.table.specs.Table.{recordsOf, at}
@@ -25,7 +26,8 @@ use Rattle.tree.specs.Insert.Path.{path-count, attach-∈}
 use Rattle.view.specs.View.{viewOf}
 use Rattle.view.specs.Survey.{usedIn-usedCount}
 use Rattle.view.specs.Formed.{formed-view}
-use Rattle.placing.specs.Place.{Placed, raisedAlong, asRoot, hangingFrom, hanging, placed}
+use Rattle.placing.specs.Place.{Placed, asRoot, hangingFrom, hanging, placed}
+use Rattle.descent.specs.Descent.{raisedAlong}
 use Rattle.newcomer.specs.Newcomer.{Newcomer, fresh, adopting, brought}
 use Rattle.placing.specs.Place.Agree.{Agree, Unlinked, walked, stays, hanging-agree, hanging-count}
 use Rattle.placing.specs.Place.Row.{along-other}
@@ -76,6 +78,11 @@ puts-seat d arity s l m depth root t h e b =
   where
     seated : List Record → Placed
     seated rows = record { rows = rows; count = 0 }
+
+-- in lent bytes: the newcomer whose card, kind and signature stand in slot s
+abbrev pub putsIn : List ℕ → ℕ → ℕ → ℕ → ℕ → ℕ → ℕ → Placed
+putsIn l kind arity s root depth timestamp =
+    puts (apart kind) arity s (brought (at (recordsOf l) s)) (recordsOf l) depth root timestamp
 
 -- ---- on rows of which some wait
 

@@ -1,5 +1,5 @@
--- `removal::close_up` meets its contract. The loop's invariant: of the first k child slots those that stay stand first, w
--- of them, and nothing else has changed. Assumes nothing.
+-- `removal::close_up` meets its contract. The loop's invariant: of the first k child slots those that stay stand first,
+-- w of them, and nothing else has changed. Assumes nothing.
 use Prim.Native.Nat.{ℕ, _+_, _-_, _≤_, _<_}
 use mathlib.Core.Path.{_≡_, refl, sym, ap, _∙_}
 use mathlib.Core.Logic.{⊎-elim}

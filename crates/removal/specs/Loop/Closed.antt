@@ -1,6 +1,6 @@
--- Loop: child slots closed up in lent bytes, write by write: the record in slot p with its first k child slots closed up
--- without v (`ClosedTo`), one slot more (`closed-moved`, `closed-passed`), and the last two writes, after which p has
--- disowned v (`closed-disowning`). Assumes nothing.
+-- Loop: child slots closed up in lent bytes, write by write: the record in slot p with its first k child slots closed
+-- up without v (`ClosedTo`), one slot more (`closed-moved`, `closed-passed`), and the last two writes, after which p
+-- has disowned v (`closed-disowning`). Assumes nothing.
 use Prim.Native.Nat.{ℕ, _+_, _-_, _^_, _≤_, _<_}
 use mathlib.Core.Path.{_≡_, refl, sym, ap, _∙_}
 use mathlib.Core.List.{List}
@@ -95,7 +95,8 @@ module _ (l : List ℕ) (p v : ℕ) (stands : Stands l p) where
       let first = put-slot t p (stands-same l t (closed .same-length) p stands) (n - 1) noSlot
       (omega (arith, count, h .some, h .to-8)) (omega arith) in
       let ended = became-by (then-with (λ q. withSlot q (n - 1) noSlot) closed first) refl e in
-      let second = put-count m p (stands-same l m (ended .same-length) p stands) (n - 1) (omega (arith, count, h .to-8)) in
+      let second = put-count m p (stands-same l m (ended .same-length) p stands) (n - 1)
+          (omega (arith, count, h .to-8)) in
       became-by
       (then-with (λ q. withCount q (n - 1)) ended second)
       (ap (λ (j : ℕ). withCount (withSlot (withSlots r (closing v (r .slots) j)) (j - 1) noSlot) (j - 1)) count

@@ -1,5 +1,5 @@
--- `back::back::put_back` meets its contract. The loop's invariant: those in the first i keys are back and the others wait,
--- so that what is left to do leads to the end of the rule. Assumes nothing.
+-- `back::back::put_back` meets its contract. The loop's invariant: those in the first i keys are back and the others
+-- wait, so that what is left to do leads to the end of the rule. Assumes nothing.
 use Prim.Native.Nat.{ℕ, _+_, _*_, _-_, _≤_}
 use mathlib.Core.Path.{_≡_, refl, _∙_}
 use mathlib.Core.List.{_∷_, map}
@@ -65,8 +65,8 @@ turn c =
 left : (c : tie.In-loop Inv-loop μ-loop) →
     let a = start (c .before) .args in
     let l = c .before .loop in
-    restBack (a .kind) (a .arity) (l .t) (slotIn (getD (a .keys .now) (l .i) 0) ∷ drop (l .i + 1) (map slotIn (a .keys .now)))
-    (l .count)
+    restBack (a .kind) (a .arity) (l .t)
+    (slotIn (getD (a .keys .now) (l .i) 0) ∷ drop (l .i + 1) (map slotIn (a .keys .now))) (l .count)
     ≡ restBack (a .kind) (a .arity) (a .t .now) (map slotIn (a .keys .now)) 0
 left c =
     let l = c .before .loop in

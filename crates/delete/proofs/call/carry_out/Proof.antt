@@ -1,5 +1,5 @@
--- `delete::call::carry_out` meets its contract: v has left, and putting back those that wait is what is left of the rule.
--- Assumes nothing.
+-- `delete::call::carry_out` meets its contract: v has left, and putting back those that wait is what is left of the
+-- rule. Assumes nothing.
 use mathlib.Core.Path.{_∙_}
 use borrow.Author.Needs.{needs}
 use Rattle.delete.specs.Plan.{plan-some, plan-used, plan-pending, plan-rest}

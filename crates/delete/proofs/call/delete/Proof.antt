@@ -1,5 +1,5 @@
--- `delete::call::delete` meets its contract: the call ends refused by the table's size or form, refused by the arguments,
--- refused since the card is not stored, or as it goes with the card's slot. Assumes nothing.
+-- `delete::call::delete` meets its contract: the call ends refused by the table's size or form, refused by the
+-- arguments, refused since the card is not stored, or as it goes with the card's slot. Assumes nothing.
 use Prim.Native.Nat.{ℕ, _≤_, _<_}
 use mathlib.Core.Path.{_≡_, sym, ap, _∙_}
 use mathlib.Core.Bool.{true, _&&_}

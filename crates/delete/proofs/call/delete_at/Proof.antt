@@ -1,5 +1,5 @@
--- `delete::call::delete_at` meets its contract: what is worked out before the first write is what the definition asks for
--- (`plan`), so it ends refused by the clock, or with the plan carried out. Assumes nothing.
+-- `delete::call::delete_at` meets its contract: what is worked out before the first write is what the definition asks
+-- for (`plan`), so it ends refused by the clock, or with the plan carried out. Assumes nothing.
 use Prim.Native.Nat.{ℕ, _+_, _≤_}
 use mathlib.Core.Path.{_≡_, sym, _∙_}
 use mathlib.Core.List.{List}
@@ -70,8 +70,9 @@ plan c =
     ordered-plan (start g .pre .0) (row g) (many g) (e .0) (e .1) (c .last-staying .result) (c .last-staying .ensures)
 
 -- the clock does not pass
-fine : (c : tie.Else1) → c .before .last-staying .result + length (take (many (ordered (c .before))) (row (ordered (c .before))))
-    ≤ lastTimestamp + 1
+fine : (c : tie.Else1) →
+    let g = ordered (c .before) in
+    c .before .last-staying .result + length (take (many g) (row g)) ≤ lastTimestamp + 1
 fine c = let g = ordered (c .before) in omega (arith, c .if1 .left, long g, some g)
 
 -- ---- needs
