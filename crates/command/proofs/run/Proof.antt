@@ -1,20 +1,21 @@
 -- `command::run` meets its contract: each operation's call has the outcome that the definition gives for its number.
 -- Assumes nothing.
 use Prim.Native.Nat.{ℕ}
-use mathlib.Core.Path.{_≡_, sym, ap, _∙_}
+use mathlib.Core.Path.{sym, ap, _∙_}
 use Rattle.insert.specs.Insert.{insertOf}
 use Rattle.refusals.specs.Outcome.{Outcome}
+use Rattle.refusals.specs.Refusal.{ARGUMENT}
 use Rattle.delete.specs.Delete.{deleteOf}
 use Rattle.search.specs.Search.{searchOf}
 use Rattle.search.specs.Search.{Outcome as Listing}
 use Rattle.soundness.specs.Soundness.{checkOf}
 use Rattle.command.specs.Command.{
-  Done,
   kind,
   arity,
   signature,
   ofChange,
   ofListing,
+  number-reported,
   command-insert,
   command-delete,
   command-search,
@@ -24,6 +25,26 @@ use Rattle.command.specs.Command.{
 use borrow.Author.Needs.{needs}
 use Rattle.command.proofs.run.Statement.{statement}
 use Rattle.command.proofs.run.Tie as tie
+
+-- ---- stations: the start, and where the command's fields have been read
+
+abbrev lent : tie.After-shared-slice-known2 → tie.Start
+lent c = c .before .before .before .before
+
+abbrev read : tie.After-get-u322 → tie.Start
+read c = lent (c .before .before .before .before)
+
+-- where the operation is none of the first two, or of the first three
+abbrev third : tie.Else2 → tie.After-get-u322
+third c = c .before .before
+
+abbrev fourth : tie.Else3 → tie.After-get-u322
+fourth c = c .before .before .before
+
+abbrev card-read : tie.After-get-u322 → tie.After-get-u32
+card-read c = c .before
+
+-- ---- needs
 
 shared-slice-read-operation : tie.Need-shared-slice-read-operation
 shared-slice-read-operation c = search needs
@@ -57,15 +78,18 @@ same-length c = search needs
 
 returns : tie.Need-returns
 returns c =
-    let r = c .before .before .before .before .before .before in
-    let a = r .before .before .before .before .before .before .before .before .args in
+    let done = c .before .before in
+    let asked = done .before .before .before in
+    let a = read (asked .before) .args in
     let q = a .command .now in
     let l = a .table .now in
     ap
     (λ (o : Outcome). ofChange o (a .list .now))
-    (c .before .before .insert .ensures
-    ∙ ap (λ (k : ℕ). insertOf l k (kind q) (arity q) (signature q)) (r .before .get-u32 .ensures))
-    ∙ sym (command-insert q l (a .list .now) (c .before .before .before .before .before .if1 .taken))
+    (done .insert .ensures
+    ∙ ap
+    (λ (k : ℕ). insertOf l k (kind q) (arity q) (signature q))
+    (card-read (asked .before) .get-u32 .ensures))
+    ∙ sym (command-insert q l (a .list .now) (asked .if1 .taken))
 
 delete-requires : tie.Need-delete-requires
 delete-requires c κs = search needs
@@ -75,14 +99,16 @@ same-length-2 c = search needs
 
 returns-2 : tie.Need-returns-2
 returns-2 c =
-    let r = c .before .before .before .before .before .before in
-    let a = r .before .before .before .before .before .before .before .before .args in
+    let done = c .before .before in
+    let asked = done .before .before in
+    let first = asked .before .before in
+    let a = read first .args in
     let q = a .command .now in
     let l = a .table .now in
     ap
     (λ (o : Outcome). ofChange o (a .list .now))
-    (c .before .before .delete .ensures ∙ ap (λ (k : ℕ). deleteOf l k (arity q)) (r .before .get-u32 .ensures))
-    ∙ sym (command-delete q l (a .list .now) (c .before .before .before .before .if2 .taken))
+    (done .delete .ensures ∙ ap (λ (k : ℕ). deleteOf l k (arity q)) (card-read first .get-u32 .ensures))
+    ∙ sym (command-delete q l (a .list .now) (asked .if2 .taken))
 
 sub-search : tie.Need-sub-search
 sub-search c = search needs
@@ -104,15 +130,17 @@ same-length-4 c = search needs
 
 returns-3 : tie.Need-returns-3
 returns-3 c =
-    let r = c .before .before .before .before .before .before .before .before .before in
-    let a = r .before .before .before .before .before .before .before .before .args in
+    let done = c .before .before in
+    let asked = done .before .before .before .before in
+    let first = third (asked .before) in
+    let a = read first .args in
     let q = a .command .now in
     let l = a .table .now in
     ap
     (λ (o : Listing). ofListing o l)
-    (c .before .before .search .ensures
-    ∙ ap (λ (x : ℕ). searchOf l (kind q) (signature q) x (a .list .now)) (r .get-u322 .ensures))
-    ∙ sym (command-search q l (a .list .now) (c .before .before .before .before .before .before .if3 .taken))
+    (done .search .ensures
+    ∙ ap (λ (x : ℕ). searchOf l (kind q) (signature q) x (a .list .now)) (first .get-u322 .ensures))
+    ∙ sym (command-search q l (a .list .now) (asked .if3 .taken))
 
 check-requires : tie.Need-check-requires
 check-requires c κs = search needs
@@ -125,60 +153,36 @@ same-length-5 c = search needs
 
 returns-4 : tie.Need-returns-4
 returns-4 c =
-    let r = c .before .before .before .before .before .before .before in
-    let a = r .before .before .before .before .before .before .before .before .args in
+    let asked = c .before .before .before in
+    let a = read (fourth (asked .before)) .args in
     let q = a .command .now in
     let l = a .table .now in
     let e = c .no-count .ensures in
-    let outcome : _≡_ {A = Done}
-    (record {
-      refusal = c .no-count .result .refusal;
-      count = c .no-count .result .count;
-      found = c .no-count .result .found;
-      table = l;
-      list = a .list .now;
-    })
-    (record { refusal = checkOf l; count = 0; found = 0; table = l; list = a .list .now }) =
-    λ i.
-    record {
-      refusal = (e .0 ∙ c .before .check .ensures) i;
-      count = e .1 i;
-      found = e .2 i;
-      table = l;
-      list = a .list .now;
-    } in
-    outcome ∙ sym (command-check q l (a .list .now) (c .before .before .before .if4 .taken))
+    number-reported _ _ _ (checkOf l) l (a .list .now) (e .0 ∙ c .before .check .ensures) (e .1) (e .2)
+    ∙ sym (command-check q l (a .list .now) (asked .if4 .taken))
 
 no-count-requires-2 : tie.Need-no-count-requires-2
 no-count-requires-2 c κs = search needs
 
 returns-5 : tie.Need-returns-5
 returns-5 c =
-    let r = c .before .before .before .before .before in
-    let a = r .before .before .before .before .before .before .before .before .args in
+    let none = c .before in
+    let no-search = none .before in
+    let no-delete = no-search .before in
+    let a = read (fourth no-search) .args in
     let q = a .command .now in
     let l = a .table .now in
     let e = c .no-count2 .ensures in
-    let outcome : _≡_ {A = Done}
-    (record {
-      refusal = c .no-count2 .result .refusal;
-      count = c .no-count2 .result .count;
-      found = c .no-count2 .result .found;
-      table = l;
-      list = a .list .now;
-    })
-    (record { refusal = 3; count = 0; found = 0; table = l; list = a .list .now }) =
-    λ i. record { refusal = e .0 i; count = e .1 i; found = e .2 i; table = l; list = a .list .now } in
-    outcome
+    number-reported _ _ _ ARGUMENT l (a .list .now) (e .0) (e .1) (e .2)
     ∙ sym
     (command-other
     q
     l
     (a .list .now)
-    (c .before .before .before .before .if1 .left)
-    (c .before .before .before .if2 .left)
-    (c .before .before .if3 .left)
-    (c .before .if4 .left))
+    (no-delete .before .if1 .left)
+    (no-delete .if2 .left)
+    (no-search .if3 .left)
+    (none .if4 .left))
 
 pub run-spec : {M : Type 1} → statement M
 run-spec =
