@@ -14,7 +14,7 @@ use Rattle.table.specs.Clear.{Cleared, clearOf}
 use Rattle.judge.specs.WellFormed.{wellFormed}
 use Rattle.survey.specs.Survey.{usedIn, slotOfCard, lowestFree, largestTimestamp}
 use Rattle.refusals.specs.Refusal.{SIZE, TABLE, ARGUMENT, KIND, TWICE, ABSENT, FULL, CLOCK, SHORT, LOOSE, firstOf, done}
-use Rattle.view.specs.Refusal.{otherKind}
+use Rattle.admission.specs.Query.{otherKind}
 use Rattle.distance.specs.Kind.{knownKind}
 use Rattle.insert.specs.Insert.{insertOf, rightArguments}
 use Rattle.refusals.specs.Outcome.{Outcome}

@@ -31,7 +31,7 @@ use Rattle.tree.specs.Slots.{keep}
 use Rattle.tree.specs.Remove.{except}
 use Rattle.tree.specs.Search.{visit, turn, isVisited, bound, enters, least, listed}
 use Rattle.tree.specs.Insert.{path, last, nearest, onward, hangs}
-use Rattle.view.specs.Refusal.{otherKind}
+use Rattle.admission.specs.Query.{otherKind}
 use Rattle.placing.specs.Place.{placed, asRoot, hanging, hangingFrom, raisedAlong}
 use Rattle.newcomer.specs.Newcomer.{Newcomer, raised, adopting, fresh}
 use Rattle.insert.specs.Insert.{rightArguments}

@@ -29,7 +29,7 @@ use Rattle.judge.specs.WellFormed.{wellFormed}
 use Rattle.judge.specs.Decided.{formed-decided}
 use Rattle.survey.specs.Survey.{usedIn, slotOfCard, lowestFree, largestTimestamp}
 use Rattle.refusals.specs.Refusal.{TABLE, ARGUMENT, KIND, TWICE, ABSENT, FULL, CLOCK, SHORT, LOOSE, firstOf, done}
-use Rattle.view.specs.Refusal.{otherKind}
+use Rattle.admission.specs.Query.{otherKind}
 use Rattle.placing.specs.Place.{Placed, placed}
 use Rattle.newcomer.specs.Newcomer.{Newcomer}
 use Rattle.insert.specs.Insert.{inserted, rightArguments}
