@@ -36,7 +36,7 @@ use Rattle.table.specs.Stands.{
 }
 use Rattle.judge.specs.WellFormed.{WellFormed}
 use Rattle.survey.specs.declared.Findings.{Findings}
-use Rattle.survey.specs.Pass.{Answers}
+use Rattle.survey.specs.Answers.{Answers}
 use Rattle.survey.specs.Survey.{usedIn, rootOf, kindOf, slotOfCard, largestTimestamp}
 use Rattle.survey.specs.Laws.{usedIn-most}
 use Rattle.admission.specs.declared.Admitted.{Admitted}

@@ -32,7 +32,8 @@ use Rattle.tree.specs.Remove.{except}
 use Rattle.tree.specs.Search.{visit, turn, isVisited, bound, enters, least, listed}
 use Rattle.tree.specs.Insert.{path, last, nearest, onward, hangs}
 use Rattle.admission.specs.Query.{otherKind}
-use Rattle.placing.specs.Place.{placed, asRoot, hanging, hangingFrom, raisedAlong}
+use Rattle.placing.specs.Place.{placed, asRoot, hanging, hangingFrom}
+use Rattle.descent.specs.Descent.{raisedAlong}
 use Rattle.newcomer.specs.Newcomer.{Newcomer, raised, adopting, fresh}
 use Rattle.insert.specs.Insert.{rightArguments}
 use Rattle.search.specs.Search.{entered, cards, distances}

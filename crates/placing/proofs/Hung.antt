@@ -22,9 +22,10 @@ use Rattle.tree.specs.Insert.Same.{path-in}
 use Rattle.view.specs.View.{viewOf}
 use Rattle.view.specs.Children.{children-at}
 use Rattle.newcomer.specs.Newcomer.{brought, brought-is, Newcomer, fresh, adopting}
-use Rattle.placing.specs.Place.{Placed, raisedAlong, hangingFrom, hanging}
-use Rattle.placing.specs.Place.Row.{Kept, Still, still-self, kept-adopting, along-still}
-use Rattle.placing.specs.Loop.Descent.{Descended, descent, descended}
+use Rattle.placing.specs.Place.{Placed, hangingFrom, hanging}
+use Rattle.newcomer.specs.Kept.{Kept, Still, still-self, kept-adopting}
+use Rattle.placing.specs.Place.Row.{along-still}
+use Rattle.descent.specs.Descent.{raisedAlong, Descended, descent, descended}
 use Rattle.table.specs.Stands.{Stands, stands-same, in-stands, whole-same}
 use Rattle.placing.specs.Hang.{Hangable, hostOf}
 

@@ -1,6 +1,5 @@
 -- What joins a table's records to the tree's theorems.
 pub mod View
-pub mod Refusal
 pub mod Children
 pub mod Shaped
 pub mod Survey

@@ -26,7 +26,8 @@ use Rattle.tree.specs.Insert.Path.{path-count, attach-∈}
 use Rattle.view.specs.View.{viewOf}
 use Rattle.view.specs.Survey.{usedIn-usedCount}
 use Rattle.view.specs.Formed.{formed-view}
-use Rattle.placing.specs.Place.{Placed, raisedAlong, asRoot, hangingFrom, hanging, placed}
+use Rattle.placing.specs.Place.{Placed, asRoot, hangingFrom, hanging, placed}
+use Rattle.descent.specs.Descent.{raisedAlong}
 use Rattle.newcomer.specs.Newcomer.{Newcomer, fresh, adopting, brought}
 use Rattle.placing.specs.Place.Agree.{Agree, Unlinked, walked, stays, hanging-agree, hanging-count}
 use Rattle.placing.specs.Place.Row.{along-other}

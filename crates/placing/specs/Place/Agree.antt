@@ -18,7 +18,8 @@ use Rattle.tree.specs.Insert.Path.{attach-∈}
 use Rattle.tree.specs.Insert.Same.{path-same, path-in, count-same}
 use Rattle.view.specs.View.{viewOf}
 use Rattle.placing.specs.Place.Row.{along-length}
-use Rattle.placing.specs.Place.{raisedAlong, hanging, hangingFrom}
+use Rattle.descent.specs.Descent.{raisedAlong}
+use Rattle.placing.specs.Place.{hanging, hangingFrom}
 use Rattle.newcomer.specs.Newcomer.{Newcomer, raised, adopting, fresh}
 
 -- the rows are of one length, and agree in every slot but those that wait

@@ -1,12 +1,21 @@
--- Loop: the walk of a newcomer as the descent takes it, what it leaves and what is left of it from a slot on.
+-- The walk of a newcomer, as the descent takes it: the radii that it raises, what it leaves, and what is left of it from
+-- a slot on.
 use Prim.Native.Nat.{ℕ, _+_}
-use mathlib.Core.List.{List}
+use mathlib.Core.List.{List, [], _∷_}
+use lib.ListN.{set}
 use Rattle.table.specs.Record.{Record}
 use Rattle.table.specs.Table.{at}
 use Rattle.tree.specs.View.{childCounts}
 use Rattle.tree.specs.Insert.{path, last}
 use Rattle.view.specs.View.{viewOf}
-use Rattle.placing.specs.Place.{raisedAlong}
+use Rattle.newcomer.specs.Newcomer.{raised}
+
+-- ---- the records on the way
+
+-- 1. "a's covering radius becomes the larger of itself and the distance from a to x", at each record visited
+unfoldable pub raisedAlong : (List ℕ → List ℕ → ℕ) → List ℕ → List ℕ → List Record → List Record
+raisedAlong d x [] rows = rows
+raisedAlong d x (a ∷ p) rows = raisedAlong d x p (set rows a (raised (d (at rows a .readings) x) (at rows a)))
 
 -- ---- what a walk leaves
 

@@ -6,7 +6,7 @@ ghost use Rattle.table.specs.Stands.{Stands, Walkable};
 ghost use Rattle.distance.specs.Signature.{Fit};
 ghost use Rattle.distance.specs.Kind.{apart};
 ghost use Rattle.table.specs.Table.{recordsOf};
-ghost use Rattle.placing.specs.Loop.Descent.{descent, descended};
+ghost use Rattle.descent.specs.Descent.{descent, descended};
 use distance::Signature;
 use newcomer::raise;
 
@@ -14,14 +14,14 @@ use newcomer::raise;
 const FARTHER: u32 = distance::FARTHEST + 1;
 
 // Where the newcomer hangs, and the distances worked out.
-pub(crate) struct Attach {
-    pub(crate) slot: usize,
-    pub(crate) count: u32,
+pub struct Attach {
+    pub slot: usize,
+    pub count: u32,
 }
 
 // The walk from the root, at most `depth` records deep. At each turn what is left of it leads from slot a, at the
 // distance `away`, to the same end; inside, `best` is the nearest of the first k children, the oldest if equally near.
-pub(crate) fn descend(
+pub fn descend(
     t: &mut [u8],
     kind: u8,
     x: Signature,

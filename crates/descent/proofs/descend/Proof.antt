@@ -1,4 +1,4 @@
--- `placing::descend::descend` meets its contract. The loops' invariants are `Walking`, what is left of the walk, and
+-- `descent::descend` meets its contract. The loops' invariants are `Walking`, what is left of the walk, and
 -- `Scanning`, what is left of the scan for the nearest child. Assumes nothing.
 use Prim.Native.Nat.{_-_}
 use mathlib.Core.Path.{_≡_, _∙_}
@@ -9,10 +9,10 @@ use borrow.Author.Tests.{lt-ltb, le-ltb}
 use Rattle.places.specs.Cases.{either}
 use Rattle.places.specs.Choice.{pick}
 use Rattle.number.specs.Frame.{Bytes}
-use Rattle.placing.proofs.Descending.{Walking, still-here, few, walk-on, walk-ends}
-use Rattle.placing.proofs.Descending.{Scanning, scanning, scanning-child, scanning-more}
-use Rattle.placing.proofs.descend.descend.Statement.{statement}
-use Rattle.placing.proofs.descend.descend.Tie as tie
+use Rattle.descent.proofs.Descending.{Walking, still-here, few, walk-on, walk-ends}
+use Rattle.descent.proofs.Descending.{Scanning, scanning, scanning-child, scanning-more}
+use Rattle.descent.proofs.descend.Statement.{statement}
+use Rattle.descent.proofs.descend.Tie as tie
 
 abbrev Inv-loop2 : tie.InvT-loop2
 Inv-loop2 t kind x arity root depth a away left count n best₀ near₀ k₀ best near k =

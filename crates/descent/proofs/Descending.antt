@@ -28,12 +28,12 @@ use Rattle.tree.specs.View.{away as away′}
 use Rattle.view.specs.View.{viewOf}
 use Rattle.view.specs.Children.{children-length, children-slot}
 use Rattle.newcomer.specs.Newcomer.{raised}
-use Rattle.placing.specs.Place.Row.{Still, still-self, still-raised}
-use Rattle.placing.specs.Loop.Descent.{Descended, descent, descended}
+use Rattle.newcomer.specs.Kept.{Still, still-self, still-raised}
+use Rattle.descent.specs.Descent.{Descended, descent, descended}
 use Rattle.table.specs.Stands.{Stands, Walkable, stands-same, walkable-same}
-use Rattle.placing.specs.Loop.DescentTurn.{Near, near, scanned, nearestOf}
-use Rattle.placing.specs.Loop.DescentTurn.{scanned-more, scanned-end, scanned-nearest}
-use Rattle.placing.specs.Loop.DescentTurn.{lifted, descended-turn}
+use Rattle.descent.specs.Loop.DescentTurn.{Near, near, scanned, nearestOf}
+use Rattle.descent.specs.Loop.DescentTurn.{scanned-more, scanned-end, scanned-nearest}
+use Rattle.descent.specs.Loop.DescentTurn.{lifted, descended-turn}
 
 -- above every distance
 abbrev pub farther : ℕ

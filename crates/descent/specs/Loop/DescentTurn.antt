@@ -18,9 +18,8 @@ use Rattle.tree.specs.View.{View, away, childCounts, distanceCount}
 use Rattle.tree.specs.Insert.{nearest, hangs, onward, path, last}
 use Rattle.tree.specs.Insert.Same.{path-same, count-same}
 use Rattle.view.specs.View.{viewOf}
-use Rattle.placing.specs.Place.{raisedAlong}
 use Rattle.newcomer.specs.Newcomer.{raised}
-use Rattle.placing.specs.Loop.Descent.{Descended, descent, descended}
+use Rattle.descent.specs.Descent.{raisedAlong, Descended, descent, descended}
 
 -- ---- the scan for the nearest child
 
