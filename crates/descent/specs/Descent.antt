@@ -1,5 +1,5 @@
--- The walk of a newcomer, as the descent takes it: the radii that it raises, what it leaves, and what is left of it from
--- a slot on.
+-- The walk of a newcomer, as the descent takes it: the radii that it raises, what it leaves, and what is left of it
+-- from a slot on.
 use Prim.Native.Nat.{ℕ, _+_}
 use mathlib.Core.List.{List, [], _∷_}
 use lib.ListN.{set}

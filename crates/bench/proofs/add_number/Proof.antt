@@ -1,5 +1,5 @@
--- `bench::add_number` is safe: a number has at most 20 digits. The loop's invariant: i of the k digits stand in the line.
--- Assumes nothing.
+-- `bench::add_number` is safe: a number has at most 20 digits. The loop's invariant: i of the k digits stand in the
+-- line. Assumes nothing.
 use Prim.Native.Nat.{ℕ, _≤_, _<_, _-_, _^_}
 use native.Mathlib.Nat.{pow-le-pow-right}
 use native.Mathlib.Decide.{decLe}
