@@ -77,8 +77,8 @@ uint32_t plotvuga_clear(uint8_t *table, size_t table_len);
  *   table, table_len          the table, read and written.
  *   card                      the card's number, 1 to 4,294,967,295, not stored yet.
  *   kind                      1 readings, 2 fault bits; the same for every card of a table.
- *   arity                     1 to 8: a record that has so many children takes no more. It may differ from call to call;
- *                             fewer make a deeper tree.
+ *   arity                     1 to 8: a record that has so many children takes no more. It may differ from call to
+ *                             call; fewer make a deeper tree.
  *   signature, signature_len  the card's signature, 32 bytes, read.
  *   count                     set to the number of distances worked out, 0 if refused.
  * Refusals: SIZE, TABLE, ARGUMENT, KIND, TWICE, FULL, CLOCK.

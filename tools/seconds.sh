@@ -6,9 +6,9 @@
 #
 # A gate that goes red because the machine was slow is worse than none. So no limit is held to the clock:
 # - rt tells each check's time by the clock, which runs on while a loaded machine does something else: tenfold has been
-#   seen. These times are printed; what is held to a limit is the processor's time, which load changes by a third at
+#   seen. These times are printed; what is held to a limit is the processor's time, which load changes by a half at
 #   most. rt does not tell it, so it is read from /proc, twice a second.
-# - A slow processor is found out by the yardstick, the kit's own small crates, which stay the same while ours change.
+# - That half, and a slow processor, is found out by the yardstick: the kit's own small crates, which stay the same.
 #   All limits are in seconds of a machine that takes `yardstick` seconds for them. It is taken before and after, and
 #   the slower of the two counts.
 # - What is above its limit by `room` percent or less is told and passes: that much no measure here can tell apart.

@@ -1,6 +1,6 @@
 /*
- * The paper's listing through the C functions, then each refusal once. A line for each call, as the bench program prints
- * them: the call's number, its refusal, its distance count, the cards found, and the cards.
+ * The paper's listing through the C functions, then each refusal once. A line for each call, as the bench program
+ * prints them: the call's number, its refusal, its distance count, the cards found, and the cards.
  */
 #include <stdio.h>
 #include <string.h>

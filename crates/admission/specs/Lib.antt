@@ -2,3 +2,4 @@
 pub mod Admission
 pub mod Key
 pub mod Verdict
+pub mod Query

@@ -82,7 +82,15 @@ numbers-fit n R seen end most = (omega (arith, end .few .0), omega (arith, end .
 -- ---- what the pass found for the calls
 
 -- a table has one root at most, so the last that the pass met is the first
-one-root : (n : ℕ) (R : ℕ → Record) → WellFormed n R → (i j : ℕ) → i < n → j < n → isRoot R i ≡ true → isRoot R j ≡ true → i ≡ j
+one-root :
+    (n : ℕ) (R : ℕ → Record)
+    → WellFormed n R
+    → (i j : ℕ)
+    → i < n
+    → j < n
+    → isRoot R i ≡ true
+    → isRoot R j ≡ true
+    → i ≡ j
 one-root n R wf i j bi bj ri rj =
     wf .one-root i j bi bj (in-use i ri) (in-use j rj) (no-parent i ri) (no-parent j rj)
   where

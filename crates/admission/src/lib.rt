@@ -10,6 +10,7 @@ ghost use Rattle.admission.specs.Verdict.{numbersAgree};
 ghost use Rattle.admission.specs.Admission.{Admits, nothing};
 
 mod keys;
+pub mod query;
 
 use keys::Key;
 use keys::keys_distinct;

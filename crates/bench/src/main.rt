@@ -109,7 +109,8 @@ fn step(number: u64, table: &mut [u8; TABLE], list: &mut [u32; PLACES]) -> bool 
     print_line(number, r, list)
 }
 
-// A proved loop has to end, and nothing says that the input does: it ends with the command numbers, which no run uses up.
+// A proved loop has to end, and nothing says that the input does: it ends with the command numbers, which no run uses
+// up.
 fn main() {
     let mut table = [0u8; TABLE];
     let mut list = [0u32; PLACES];

@@ -2,6 +2,7 @@
 ghost use mathlib.Core.Path.{_≡_};
 ghost use lib.ListN.{length};
 ghost use Rattle.command.specs.Command.{Done, commandOf};
+use refusals::ARGUMENT;
 
 // What a line of the program reports.
 pub struct Report {
@@ -66,5 +67,5 @@ pub fn run(command: &[u8], table: &mut [u8], list: &mut [u32]) -> Report
     if operation == 4 {
         return no_count(soundness::check(table));
     }
-    no_count(3)
+    no_count(ARGUMENT)
 }

@@ -10,7 +10,8 @@ use lib.Seq.{sets, sets-eq, length-sets, take-at, drop-cons, length-take-le, get
 use Rattle.places.specs.Fill.{sets-append}
 use Rattle.table.specs.Record.{Record, slot, children}
 use Rattle.tree.specs.View.Under.{under}
-use Rattle.delete.specs.Gather.{Gathered, keyOf, slotsUnder, gathered}
+use Rattle.back.specs.Age.{keyOf}
+use Rattle.delete.specs.Loop.Gather.{Gathered, slotsUnder, gathered}
 
 pub parts : {l l′ : List ℕ} {a a′ : ℕ} → l ≡ l′ → a ≡ a′
     → _≡_ {A = Gathered} (record { keys = l; at = a }) (record { keys = l′; at = a′ })

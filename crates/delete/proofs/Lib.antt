@@ -1,1 +1,2 @@
+-- What the proofs of delete share.
 mod Gathering

@@ -1,50 +1,59 @@
--- The call's refusals in the two groups in which the code tests them, and what it leads to when there is none. Assumes
--- nothing.
+-- The call's refusals: which number is given where, what the call does with the card's slot (`outcomeAt`), and what it
+-- means that there is no refusal. By the algebra of tests in their order. Assumes nothing.
 use Prim.Native.Nat.{ℕ, _≤_, _<_}
 use mathlib.Core.Path.{_≡_, refl, sym, ap, subst, _∙_}
-use mathlib.Core.Bool.{Bool, true, false, _&&_, not}
-use mathlib.Core.List.{List, [], _∷_}
+use mathlib.Core.Bool.{Bool, true, false, _&&_, _||_, not, false≢true}
+use mathlib.Core.List.{List, [], _∷_, _++_}
 use native.Mathlib.Omega.{arith}
-use native.Mathlib.Decide.{ℕ-discrete}
 use lib.Dec.{eqb, leb}
 use lib.ListN.{length}
-use borrow.Author.Tests.{eq-eqb, ne-eqb, le-leb, lt-leb, leb-true, leb-false}
+use borrow.Author.Tests.{eq-eqb, ne-eqb, le-leb, lt-leb, leb-true, leb-false, not-false}
 use Rattle.places.specs.Choice.{pick, and-left, and-right}
+use Rattle.refusals.specs.Limits.{mostChildren, knownArity}
+use Rattle.refusals.specs.Refusal.{ARGUMENT, ABSENT, CLOCK, firstOf, done}
+use Rattle.refusals.specs.First.{anyHolds, first-append, first-none, first-given, first-done}
+use Rattle.refusals.specs.Outcome.{Outcome, refused}
 use Rattle.table.specs.Record.{Record, recordOf}
 use Rattle.table.specs.Table.{rightSize, recordsIn, recordsOf, at}
 use Rattle.table.specs.Records.{records-length}
-use Rattle.table.specs.Size.{whole, rows-are}
+use Rattle.table.specs.Size.{rows-are}
+use Rattle.table.specs.Stands.{right-most}
 use Rattle.judge.specs.WellFormed.{WellFormed, wellFormed}
-use Rattle.judge.specs.Decided.{formed-decided}
 use Rattle.survey.specs.Survey.{slotOfCard}
 use Rattle.survey.specs.Laws.{slot-has-card}
-use Rattle.view.specs.Shaped.{Shaped, shaped-bytes}
-use Rattle.refusals.specs.Limits.{knownArity}
-use Rattle.refusals.specs.Refusal.{SIZE, TABLE, ARGUMENT, ABSENT, CLOCK, firstOf, done}
-use Rattle.refusals.specs.Outcome.{Outcome, refused}
-use Rattle.insert.specs.Refusals.{early, Early, early-passed}
-use Rattle.delete.specs.Delete.{clockWouldPass, refusalOf, deleteOf}
-use Rattle.delete.specs.Leaving.{Held}
-use Rattle.delete.specs.Plan.{outcomeAt}
+use Rattle.admission.specs.Admission.{admissionTests, Readable}
+use Rattle.view.specs.Shaped.{Shaped}
+use Rattle.view.specs.Readable.{readable-formed, readable-shaped}
+use Rattle.placing.specs.Changed.{changed}
+use Rattle.removal.specs.Leaving.{Held}
+use Rattle.delete.specs.Delete.{deleted, clockWouldPass, deletionTests, refusalOf, deleteOf}
 
--- by where the card stands, and by the clock
-unfoldable pub late : Bool → Bool → ℕ
-late absent clock = firstOf ((absent, ABSENT) ∷ (clock, CLOCK) ∷ [])
-
-two-groups : (size formed arguments absent clock : Bool)
-    → firstOf ((not size, SIZE) ∷ (not formed, TABLE) ∷ (not arguments, ARGUMENT) ∷ (absent, ABSENT) ∷ (clock, CLOCK)
-    ∷ [])
-    ≡ pick (eqb (early size formed arguments) done) (late absent clock) (early size formed arguments)
-unfolding early late
-two-groups false f a b c = refl
-two-groups true false a b c = refl
-two-groups true true false b c = refl
-two-groups true true true b c = refl
+-- a refused call's outcome
+abbrev pub refusedBy : ℕ → List ℕ → Outcome
+refusedBy k l = record { refusal = k; count = 0; table = l }
 
 -- outcomes of the same numbers are one
-pub same-numbers : {k j c e : ℕ} (l : List ℕ) → k ≡ j → c ≡ e
-    → _≡_ {A = Outcome} (record { refusal = k; count = c; table = l }) (record { refusal = j; count = e; table = l })
-same-numbers l p q i = record { refusal = p i; count = q i; table = l }
+pub same-refusal : {k j c : ℕ} (l : List ℕ) → k ≡ j → c ≡ 0
+    → _≡_ {A = Outcome} (record { refusal = k; count = c; table = l }) (refusedBy j l)
+same-refusal l p q i = record { refusal = p i; count = q i; table = l }
+
+-- what the call does with slot v, once the card is known to stand there
+unfoldable pub outcomeAt : List ℕ → ℕ → ℕ → Outcome
+outcomeAt l v arity =
+    pick (clockWouldPass (recordsOf l) v) (refused CLOCK l) (changed (deleted arity (recordsOf l) v))
+
+-- ---- the arguments
+
+module _ (card arity : ℕ) (right : leb 1 card && knownArity arity ≡ true) where
+  pub right-card : 1 ≤ card
+  right-card = leb-true 1 card (and-left (leb 1 card) (knownArity arity) right)
+
+  pub right-arity : arity ≤ mostChildren
+  right-arity =
+      leb-true arity mostChildren
+      (and-right (leb 1 arity) (leb arity mostChildren) (and-right (leb 1 card) (knownArity arity) right))
+
+-- ---- a refusal
 
 module _ (l : List ℕ) (card arity : ℕ) where
   abbrev n : ℕ
@@ -53,118 +62,153 @@ module _ (l : List ℕ) (card arity : ℕ) where
   abbrev v : ℕ
   v = slotOfCard (recordsIn l) (recordOf l) card
 
-  abbrev pub earlyOf : ℕ
-  earlyOf = early (rightSize (length l)) (wellFormed (recordsIn l) (recordOf l)) (leb 1 card && knownArity arity)
+  abbrev wrong : Bool
+  wrong = not (leb 1 card && knownArity arity)
 
-  refusal-is : refusalOf l card arity
-      ≡ pick (eqb earlyOf done) (late (leb n v) (clockWouldPass (recordsOf l) v)) earlyOf
-  unfolding refusalOf
-  refusal-is =
-      two-groups (rightSize (length l)) (wellFormed n (recordOf l)) (leb 1 card && knownArity arity) (leb n v)
-      (clockWouldPass (recordsOf l) v)
+  abbrev clock : Bool
+  clock = clockWouldPass (recordsOf l) v
 
-  given : (k : ℕ) → refusalOf l card arity ≡ k → (k ≡ done → ⊥)
-      → _≡_ {A = Outcome} (record { refusal = k; count = 0; table = l }) (deleteOf l card arity)
+  refusal-given : (k : ℕ) → refusalOf l card arity ≡ k → (k ≡ done → ⊥) → refusedBy k l ≡ deleteOf l card arity
   unfolding deleteOf refused
-  given k e ne = sym (rw (e, ne-eqb k done ne))
+  refusal-given k e ne = sym (rw (e, ne-eqb k done ne))
 
-  refusal-early : (earlyOf ≡ done → ⊥) → refusalOf l card arity ≡ earlyOf
-  refusal-early ne =
-      refusal-is ∙ ap (λ (t : Bool). pick t (late (leb n v) (clockWouldPass (recordsOf l) v)) earlyOf)
-      (ne-eqb earlyOf done ne)
+  clock-refused : clock ≡ true → refusalOf l card arity ≡ CLOCK → outcomeAt l v arity ≡ deleteOf l card arity
+  unfolding outcomeAt deleteOf
+  clock-refused e given = rw (given, e)
 
-  -- refused by the table's size and form or the call's arguments
-  pub early-refused : (earlyOf ≡ done → ⊥)
-      → _≡_ {A = Outcome} (record { refusal = earlyOf; count = 0; table = l }) (deleteOf l card arity)
-  early-refused ne =
-      given earlyOf (refusal-early ne) ne
+  clock-passed : clock ≡ false → refusalOf l card arity ≡ done → outcomeAt l v arity ≡ deleteOf l card arity
+  unfolding outcomeAt deleteOf
+  clock-passed e given = rw (given, e)
 
-  module _ (passed : earlyOf ≡ done) where
-    refusal-late : refusalOf l card arity ≡ late (leb n v) (clockWouldPass (recordsOf l) v)
-    refusal-late =
-        refusal-is ∙ ap (λ (t : Bool). pick t (late (leb n v) (clockWouldPass (recordsOf l) v)) earlyOf)
-        (eq-eqb earlyOf done passed)
+  by-groups : refusalOf l card arity
+      ≡ pick (eqb (firstOf (admissionTests l)) done) (firstOf (deletionTests l card arity)) (firstOf (admissionTests l))
+  unfolding refusalOf
+  by-groups = first-append (admissionTests l) (deletionTests l card arity) refl
 
-    tests : Early (rightSize (length l)) (wellFormed n (recordOf l)) (leb 1 card && knownArity arity)
-    tests = early-passed (rightSize (length l)) (wellFormed n (recordOf l)) (leb 1 card && knownArity arity) passed
+  -- by the table's size or form
+  pub admission-refused : (k : ℕ) → k ≡ firstOf (admissionTests l) → (k ≡ done → ⊥)
+      → refusedBy k l ≡ deleteOf l card arity
+  admission-refused k e ne =
+      refusal-given k
+      (by-groups
+      ∙ ap (λ (t : Bool). pick t (firstOf (deletionTests l card arity)) (firstOf (admissionTests l)))
+      (ne-eqb (firstOf (admissionTests l)) done (λ z. ne (e ∙ z)))
+      ∙ sym e)
+      ne
 
-    -- "card not stored"
-    pub absent-refused : n ≤ v
-        → _≡_ {A = Outcome} (record { refusal = ABSENT; count = 0; table = l }) (deleteOf l card arity)
-    unfolding late
-    absent-refused h =
-        given ABSENT
-        (refusal-late ∙ ap (λ (t : Bool). late t (clockWouldPass (recordsOf l) v)) (le-leb n v h))
-        (λ e. omega (arith, e))
+  module _ (admitted : firstOf (admissionTests l) ≡ done) where
+    own : refusalOf l card arity ≡ firstOf (deletionTests l card arity)
+    own =
+        by-groups
+        ∙ ap (λ (t : Bool). pick t (firstOf (deletionTests l card arity)) (firstOf (admissionTests l)))
+        (eq-eqb (firstOf (admissionTests l)) done admitted)
 
-    pub arity-few : arity ≤ 8
-    arity-few =
-        leb-true arity 8
-        (and-right (leb 1 arity) (leb arity 8) (and-right (leb 1 card) (knownArity arity) (tests .arguments-right)))
+    -- by the arguments
+    pub argument-refused : leb 1 card && knownArity arity ≡ false → refusedBy ARGUMENT l ≡ deleteOf l card arity
+    argument-refused e =
+        refusal-given ARGUMENT
+        (own ∙ first-given [] wrong ARGUMENT ((leb n v, ABSENT) ∷ (clock, CLOCK) ∷ []) refl (ap not e))
+        (λ z. omega (arith, z))
 
-    -- the card stands in a well-formed table
-    pub present-held : v < n → Held (recordsOf l) v
-    present-held h =
-        let right = tests .size-right in
-        let size = whole (length l) right in
-        let same = rows-are l right in
-        let formed : WellFormed n (recordOf l) = formed-decided n (recordOf l) .shows (tests .table-formed) in
-        let shape : Shaped n (recordOf l) = shaped-bytes n l (size .0) in
-        let some = leb-true 1 card (and-left (leb 1 card) (knownArity arity) (tests .arguments-right)) in
-        let here : recordOf l v .card ≡ card = slot-has-card n (recordOf l) card h in
-        record {
-          small = rw (records-length l) (size .1);
-          shaped = rw (records-length l) (subst (λ (R : ℕ → Record). Shaped n R) (sym same) shape);
-          well-formed = rw (records-length l) (subst (λ (R : ℕ → Record). WellFormed n R) (sym same) formed);
-          used = omega (arith, some, here, ap (λ (R : ℕ → Record). R v .card) same);
-        }
+    module _ (right : leb 1 card && knownArity arity ≡ true) where
+      -- "card not stored"
+      pub absent-refused : recordsIn l ≤ slotOfCard (recordsIn l) (recordOf l) card
+          → refusedBy ABSENT l ≡ deleteOf l card arity
+      absent-refused h =
+          let none : wrong || false ≡ false = rw right in
+          refusal-given ABSENT
+          (own ∙ first-given ((wrong, ARGUMENT) ∷ []) (leb n v) ABSENT ((clock, CLOCK) ∷ []) none (le-leb n v h))
+          (λ z. omega (arith, z))
 
-    pub present-done : v < n → outcomeAt l v arity ≡ deleteOf l card arity
-    present-done h = go (clockWouldPass (recordsOf l) v) refl
-      where
-        stands : refusalOf l card arity ≡ late false (clockWouldPass (recordsOf l) v)
-        stands = refusal-late ∙ ap (λ (t : Bool). late t (clockWouldPass (recordsOf l) v)) (lt-leb n v h)
+      -- by the clock, or not at all
+      pub present-done : slotOfCard (recordsIn l) (recordOf l) card < recordsIn l
+          → outcomeAt l (slotOfCard (recordsIn l) (recordOf l) card) arity ≡ deleteOf l card arity
+      present-done h = go clock refl
+        where
+          go : (t : Bool) → clock ≡ t → outcomeAt l v arity ≡ deleteOf l card arity
+          go true e =
+              let none : wrong || (leb n v || false) ≡ false = rw (right, lt-leb n v h) in
+              clock-refused e (own ∙ first-given ((wrong, ARGUMENT) ∷ (leb n v, ABSENT) ∷ []) clock CLOCK [] none e)
+          go false e =
+              let none : wrong || (leb n v || (clock || false)) ≡ false = rw (right, lt-leb n v h, e) in
+              clock-passed e (own ∙ first-done (deletionTests l card arity) none)
 
-        go : (t : Bool) → clockWouldPass (recordsOf l) v ≡ t → outcomeAt l v arity ≡ deleteOf l card arity
-        go true e = unfold outcomeAt deleteOf in rw (stands, e) (unfold late in refl)
-        go false e = unfold outcomeAt deleteOf in rw (stands, e) (unfold late in refl)
+  -- ---- the card stands in a well-formed table
 
--- ---- accepted
+  pub present-held :
+      Readable l
+      → leb 1 card && knownArity arity ≡ true
+      → slotOfCard (recordsIn l) (recordOf l) card < recordsIn l
+      → Held (recordsOf l) (slotOfCard (recordsIn l) (recordOf l) card)
+  present-held ok right h =
+      let same = rows-are l (ok .size) in
+      let card-here : recordOf l v .card ≡ card = slot-has-card n (recordOf l) card h in
+      record {
+        small = rw (records-length l) (right-most l (ok .size));
+        shaped = rw (records-length l) (subst (λ (R : ℕ → Record). Shaped n R) (sym same) (readable-shaped ok));
+        well-formed =
+            rw (records-length l) (subst (λ (R : ℕ → Record). WellFormed n R) (sym same) (readable-formed ok));
+        used = omega (arith, right-card card arity right, card-here, ap (λ (R : ℕ → Record). R v .card) same);
+      }
 
-late-passed : (absent clock : Bool) → late absent clock ≡ done → (absent ≡ false) × (clock ≡ false)
-unfolding late
-late-passed true c e = absurd (omega (arith, e))
-late-passed false true e = absurd (omega (arith, e))
-late-passed false false e = (refl, refl)
+-- ---- no refusal
+
+-- none of five tests holds
+none-of-five :
+    (a b c d e : Bool)
+    → a || (b || (c || (d || (e || false)))) ≡ false
+    → (a ≡ false) × (b ≡ false) × (c ≡ false) × (d ≡ false) × (e ≡ false)
+none-of-five true b c d e h = absurd (false≢true (sym h))
+none-of-five false true c d e h = absurd (false≢true (sym h))
+none-of-five false false true d e h = absurd (false≢true (sym h))
+none-of-five false false false true e h = absurd (false≢true (sym h))
+none-of-five false false false false true h = absurd (false≢true (sym h))
+none-of-five false false false false false h = (refl, refl, refl, refl, refl)
 
 module _ (l : List ℕ) (card arity : ℕ) (none : refusalOf l card arity ≡ done) where
   abbrev v′ : ℕ
   v′ = slotOfCard (recordsIn l) (recordOf l) card
 
-  passed-early : earlyOf l card arity ≡ done
-  passed-early = elim (ℕ-discrete (earlyOf l card arity) done) [
-    | yes e ↦ e
-    | no ne ↦ absurd (ne (sym (refusal-early l card arity ne) ∙ none))
-  ]
+  abbrev right′ : Bool
+  right′ = leb 1 card && knownArity arity
 
-  passed-late : (leb (recordsIn l) v′ ≡ false) × (clockWouldPass (recordsOf l) v′ ≡ false)
-  passed-late =
-      late-passed (leb (recordsIn l) v′) (clockWouldPass (recordsOf l) v′)
-      (sym (refusal-late l card arity passed-early) ∙ none)
+  none-holds : anyHolds (admissionTests l ++ deletionTests l card arity) ≡ false
+  unfolding refusalOf
+  none-holds = first-none (admissionTests l ++ deletionTests l card arity) refl none
 
-  within : v′ < recordsIn l
-  within = leb-false (recordsIn l) v′ (passed-late .0)
+  each :
+      (not (rightSize (length l)) ≡ false)
+      × (not (wellFormed (recordsIn l) (recordOf l)) ≡ false)
+      × (not right′ ≡ false)
+      × (leb (recordsIn l) v′ ≡ false)
+      × (clockWouldPass (recordsOf l) v′ ≡ false)
+  each =
+      none-of-five (not (rightSize (length l))) (not (wellFormed (recordsIn l) (recordOf l))) (not right′)
+      (leb (recordsIn l) v′) (clockWouldPass (recordsOf l) v′) none-holds
+
+  accepted-readable : Readable l
+  accepted-readable =
+      record {
+        size = not-false (rightSize (length l)) (each .0);
+        formed = not-false (wellFormed (recordsIn l) (recordOf l)) (each .1);
+      }
+
+  accepted-right : right′ ≡ true
+  accepted-right = not-false right′ (each .2)
+
+  accepted-within : v′ < recordsIn l
+  accepted-within = leb-false (recordsIn l) v′ (each .3)
 
   pub accepted-held : Held (recordsOf l) v′
-  accepted-held = present-held l card arity passed-early within
+  accepted-held = present-held l card arity accepted-readable accepted-right accepted-within
 
-  pub accepted-arity : arity ≤ 8
-  accepted-arity = arity-few l card arity passed-early
+  pub accepted-arity : arity ≤ mostChildren
+  accepted-arity = right-arity card arity accepted-right
 
   pub accepted-clock : clockWouldPass (recordsOf l) v′ ≡ false
-  accepted-clock = passed-late .1
+  accepted-clock = each .4
 
   pub accepted-slot : at (recordsOf l) v′ .card ≡ card
   accepted-slot =
-      ap (λ (R : ℕ → Record). R v′ .card) (rows-are l (tests l card arity passed-early .size-right))
-      ∙ slot-has-card (recordsIn l) (recordOf l) card within
+      ap (λ (R : ℕ → Record). R v′ .card) (rows-are l (accepted-readable .size))
+      ∙ slot-has-card (recordsIn l) (recordOf l) card accepted-within

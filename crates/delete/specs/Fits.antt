@@ -1,27 +1,26 @@
--- A deletion leaves fields that fit their bytes, so the bytes afterwards hold exactly the records that the rule gives. What
--- stays fits as it did, and each placing keeps that. Assumes nothing.
+-- A deletion leaves fields that fit their bytes, so the bytes afterwards hold exactly the records that the rule gives.
+-- What stays fits as it did, and putting back keeps that. Assumes nothing.
 use Prim.Native.Nat.{ℕ, _+_, _≤_, _<_}
-use mathlib.Core.Path.{_≡_, refl}
+use mathlib.Core.Path.{_≡_}
 use mathlib.Core.Bool.{false}
-use mathlib.Core.List.{List, [], _∷_, List·Memᴰ·head as first}
+use mathlib.Core.List.{List}
 use native.Mathlib.Omega.{arith}
 use lib.ListN.{length, List·getD-eq-default}
 use borrow.Author.Tests.{ltb-false}
-use Rattle.distance.specs.Kind.{apart}
+use Rattle.places.specs.Cases.{below-or, either}
+use Rattle.refusals.specs.Limits.{mostChildren, lastTimestamp}
 use Rattle.table.specs.Record.{Record, Used, slot}
 use Rattle.table.specs.Table.{at}
-use Rattle.places.specs.Cases.{below-or, either}
 use Rattle.table.specs.RoundTrip.{Fitting, FittingRow}
-use Rattle.survey.specs.Survey.{kindOf, largestTimestamp}
-use Rattle.view.specs.Survey.{kindOf-is}
-use Rattle.view.specs.Formed.{free-or-used, used-within}
-use Rattle.placing.specs.Place.{Placed}
-use Rattle.refusals.specs.Limits.{lastTimestamp}
-use Rattle.placing.specs.RowsFit.{fitting-free, placed-fits}
-use Rattle.delete.specs.Delete.{waiting, removed, oneBack, putBack, deleted, clockWouldPass}
-use Rattle.delete.specs.Leaving.{Held, removed-out}
-use Rattle.delete.specs.Removed.{used-stays, removed-shaped, removed-well-formed}
-use Rattle.delete.specs.Returning.{Returning, returning-ready, returning-next, returning-largest, removed-returning}
+use Rattle.survey.specs.Survey.{largestTimestamp}
+use Rattle.view.specs.Formed.{free-or-used}
+use Rattle.placing.specs.RowsFit.{fitting-free}
+use Rattle.removal.specs.Removal.{removed}
+use Rattle.removal.specs.Leaving.{Held, removed-out}
+use Rattle.removal.specs.Removed.{used-stays, removed-shaped, removed-well-formed}
+use Rattle.back.specs.Fits.{putBack-fits}
+use Rattle.delete.specs.Delete.{waiting, deleted, clockWouldPass}
+use Rattle.delete.specs.Deleted.{removed-returnable}
 
 removed-fits : {rows : List Record} {v : ℕ} → Held rows v → FittingRow rows → FittingRow (removed rows v)
 removed-fits {rows} {v} held fits a h =
@@ -40,8 +39,9 @@ removed-fits {rows} {v} held fits a h =
         (λ k. below-or i 8
         (λ j. omega (arith, removed-well-formed held .filled a b u .past-count i k j))
         (λ j.
-        let e : slot (S a) i ≡ 0 = List·getD-eq-default (S a .slots) 0 (omega (arith, removed-shaped held .eight a)) in
-        omega (arith, e)))
+        let none : slot (S a) i ≡ 0 =
+        List·getD-eq-default (S a .slots) 0 (omega (arith, removed-shaped held .eight a)) in
+        omega (arith, none)))
 
     used-fits : a < length rows → Used (S a) → Fitting (S a)
     used-fits b u =
@@ -60,26 +60,17 @@ removed-fits {rows} {v} held fits a h =
           readings = rw (st .readings) (was .readings);
         }
 
-module _ {old : List Record} {v arity : ℕ} (held : Held old v) (to-8 : arity ≤ 8) (were : FittingRow old) where
-  abbrev d : List ℕ → List ℕ → ℕ
-  d = apart (kindOf (length old) (at old))
-
-  returned-fits : (ss : List ℕ) (p : Placed) → Returning old v ss (p .rows) → FittingRow (p .rows)
-      → largestTimestamp (length old) (at (p .rows)) + length ss ≤ lastTimestamp
-      → FittingRow (putBack d arity old ss p .rows)
-  unfolding putBack
-  returned-fits [] p r fits clock = fits
-  returned-fits (s ∷ ss) p r fits clock =
-      let u = r .waits s (first refl) .0 in
-      let b : s < length old = used-within (held .shaped) s u in
-      let kind = kindOf-is (length old) (at old) (held .well-formed) s b u in
-      let next : FittingRow (oneBack d arity old s p .rows) =
-      rw kind (placed-fits (returning-ready held to-8 r) fits (were s b .card) (were s b .readings) (omega arith)) in
-      returned-fits ss (oneBack d arity old s p) (returning-next held to-8 r d) next
-      (omega (arith, clock, returning-largest held to-8 r d))
-
-  pub deleted-fits : clockWouldPass old v ≡ false → FittingRow (deleted arity old v .rows)
-  unfolding deleted clockWouldPass
-  deleted-fits clock =
-      returned-fits (waiting old v) (record { rows = removed old v; count = 0 }) (removed-returning held) (removed-fits held were)
-      (ltb-false lastTimestamp (largestTimestamp (length old) (at (removed old v)) + length (waiting old v)) clock)
+pub deleted-fits :
+    {rows : List Record} {v arity : ℕ}
+    → Held rows v
+    → arity ≤ mostChildren
+    → FittingRow rows
+    → clockWouldPass rows v ≡ false
+    → FittingRow (deleted arity rows v .rows)
+unfolding deleted clockWouldPass
+deleted-fits {rows} {v} held to-8 were clock =
+    let r = removed-returnable held in
+    putBack-fits to-8 (waiting rows v) (record { rows = removed rows v; count = 0 }) r
+    (λ s i. let f = were s (r .slot-within s i) in (f .card, f .readings))
+    (removed-fits held were)
+    (ltb-false lastTimestamp (largestTimestamp (length rows) (at (removed rows v)) + length (waiting rows v)) clock)

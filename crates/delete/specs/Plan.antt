@@ -1,60 +1,89 @@
--- What the call works out before it writes, and that it is what the definition asks for: the keys in age order are the
--- deleted card's and those of the slots that wait, the largest timestamp is that of the records that stay, and the
--- depth theirs. Assumes nothing.
-use Prim.Native.Nat.{ℕ, zero, suc, _+_, _-_, _%_, _≤_, _<_}
+-- What the call works out before it writes (`Planned`), and that it is what the definition asks for: the keys in age
+-- order are the deleted card's and those of the slots that wait, the largest timestamp is that of the records that
+-- stay, and the depth theirs. So the bytes from which v has left are those in which the others wait (`plan-pending`).
+-- Assumes nothing.
+use Prim.Native.Nat.{ℕ, suc, _+_, _-_, _≤_, _<_}
 use mathlib.Core.Path.{_≡_, refl, sym, ap, subst, _∙_}
-use mathlib.Core.Bool.{Bool, false, cond}
-use mathlib.Core.List.{List, [], _∷_, map, List·Memᴰ·head as first}
+use mathlib.Core.Bool.{true, false, _&&_}
+use mathlib.Core.List.{List, map}
 use native.Mathlib.Omega.{arith}
 use native.Mathlib.Decide.{ℕ-discrete}
-use lib.Dec.{ltb}
-use lib.ListN.{length, getD, set, drop, replicate, length-map, length-replicate}
+use lib.Dec.{leb, ltb}
+use lib.ListN.{length, getD, set, take, drop, length-map, length-take, length-drop, length-replicate}
+use lib.Seq.{getD-set-other, take-all}
 use borrow.Author.Tests.{lt-ltb, le-ltb}
-use Rattle.places.specs.Choice.{pick}
 use Rattle.places.specs.Fill.{zeros-at}
 use Rattle.number.specs.Frame.{Bytes}
-use Rattle.order.specs.Order.{inOrder, putAmong as placed}
-use Rattle.order.specs.InOrder.{inOrder-length, member-of-inOrder, inOrder-of-member}
-use Rattle.table.specs.Record.{Record, recordOf, free, noSlot, children}
+use Rattle.order.specs.Order.{inOrder}
+use Rattle.order.specs.InOrder.{inOrder-length}
+use Rattle.refusals.specs.Limits.{mostRecords, mostChildren, lastTimestamp, knownArity}
+use Rattle.refusals.specs.Refusal.{CLOCK, done}
+use Rattle.refusals.specs.Outcome.{Outcome, refused}
+use Rattle.table.specs.Record.{Record, recordOf, free, noSlot, children, largestTable}
 use Rattle.table.specs.Table.{recordsOf, recordsIn, at}
 use Rattle.table.specs.Records.{records-length, records-at}
-use Rattle.survey.specs.Survey.{usedIn, rootOf, kindOf, largestTimestamp}
+use Rattle.table.specs.RoundTrip.{bytes-back}
+use Rattle.table.specs.Stands.{
+  Stands,
+  WholeRecords,
+  Walkable,
+  right-are,
+  are-whole,
+  whole-are,
+  whole-same,
+  in-same,
+  are-large,
+}
+use Rattle.judge.specs.WellFormed.{WellFormed}
+use Rattle.survey.specs.declared.Findings.{Findings}
+use Rattle.survey.specs.Answers.{Answers}
+use Rattle.survey.specs.Survey.{usedIn, rootOf, kindOf, slotOfCard, largestTimestamp}
 use Rattle.survey.specs.Laws.{usedIn-most}
-use Rattle.tree.specs.Slots.{_∈_, ∈-decide, image-from, image-to}
-use Rattle.tree.specs.View.{Below, here}
-use Rattle.tree.specs.View.Shape.{below-younger}
+use Rattle.admission.specs.declared.Admitted.{Admitted}
+use Rattle.admission.specs.Admission.{Admits, admitted-readable}
+use Rattle.tree.specs.Slots.{_∈_, ∈-decide, image-to}
 use Rattle.tree.specs.View.Under.{under}
+use Rattle.tree.specs.View.Count.{used-at-most}
 use Rattle.tree.specs.Remove.Count.{removed-usedCount}
 use Rattle.view.specs.Children.{at-∈}
 use Rattle.view.specs.Survey.{usedIn-usedCount}
-use Rattle.view.specs.Formed.{used-within}
-use Rattle.refusals.specs.Refusal.{CLOCK, done}
-use Rattle.placing.specs.Place.{Placed}
-use Rattle.table.specs.Stands.{Walkable}
 use Rattle.view.specs.Readable.{formed-walkable}
-use Rattle.judge.specs.WellFormed.{WellFormed}
+use Rattle.view.specs.Freed.{freedAt, freed-same}
 use Rattle.placing.specs.Changed.{changed}
-use Rattle.refusals.specs.Outcome.{Outcome, refused}
-use Rattle.refusals.specs.Limits.{lastTimestamp}
-use Rattle.table.specs.RoundTrip.{bytes-back}
-use Rattle.tree.specs.View.Count.{used-at-most}
-use Rattle.delete.specs.Delete.{leaving, ageKey, waiting, removed, unhung, deleted, clockWouldPass}
-use Rattle.delete.specs.Leaving.{
+use Rattle.placing.specs.Hang.{leaves}
+use Rattle.removal.specs.Removal.{leaving, removed, unhung}
+use Rattle.removal.specs.Leaving.{
   Held,
   held-seen,
-  leaving-iff,
   leaving-first,
   leaving-used,
   leaving-distinct,
-  below-iff,
+  unhung-length,
+  unhung-leaving,
   removed-in,
   removed-out,
 }
-use Rattle.delete.specs.Removed.{removed-is, removed-all, removed-rootOf}
-use Rattle.delete.specs.Waiting.{waiting-length}
-use Rattle.delete.specs.Gather.{keyOf, slotsUnder}
-use Rattle.delete.specs.Clock.{
-  slotIn,
+use Rattle.removal.specs.Removed.{removed-is, removed-all, removed-rootOf}
+use Rattle.removal.specs.Lent.{held-stands}
+use Rattle.back.specs.Age.{keyOf, ageKey, slotIn}
+use Rattle.back.specs.Returnable.{returnable-same}
+use Rattle.back.specs.Loop.Turn.{Turn, formed-linked}
+use Rattle.back.specs.Loop.Pending.{Pending, restBack, restBack-over}
+use Rattle.delete.specs.Delete.{waiting, deleted, clockWouldPass}
+use Rattle.delete.specs.Waiting.{
+  leavingKeys,
+  leaving-within,
+  leaving-length,
+  waiting-low,
+  waiting-iff,
+  keys-slots,
+  keys-waiting,
+}
+use Rattle.delete.specs.Deleted.{removed-returnable}
+use Rattle.delete.specs.Call.{outcomeAt, present-held}
+use Rattle.delete.specs.Loop.Gather.{slotsUnder}
+use Rattle.delete.specs.Loop.Clock.{
+  noMarks,
   marked,
   marked-in,
   marked-out,
@@ -65,307 +94,320 @@ use Rattle.delete.specs.Clock.{
   timestamp-free,
   largest-same,
 }
-use Rattle.delete.specs.Turn.{turn-start}
-use Rattle.delete.specs.Pending.{Pending}
 
-abbrev outcome : ℕ → List ℕ → Outcome
-outcome count t = record { refusal = done; count = count; table = t }
-
--- a key below all others stays first
-placed-first : (x : ℕ) (l : List ℕ) → ((y : ℕ) → y ∈ l → x ≤ y) → placed x l ≡ x ∷ l
-unfolding placed
-placed-first x [] h = refl
-placed-first x (y ∷ l) h =
-    let e : ltb y x ≡ false = le-ltb y x (h y (first refl)) in
-    ap (λ (t : Bool). cond t (y ∷ placed x l) (x ∷ y ∷ l)) e
-
-first-in-order : (x : ℕ) (l : List ℕ) → ((y : ℕ) → y ∈ l → x ≤ y) → inOrder (x ∷ l) ≡ x ∷ inOrder l
-first-in-order x l h =
-    unfold inOrder in placed-first x (inOrder l) (λ y i. h y (member-of-inOrder y l i))
+-- ---- of the records: what leaves, and what stays
 
 module _ {rows : List Record} {v : ℕ} (held : Held rows v) where
-  -- ---- the keys
+  abbrev N : ℕ
+  N = length rows
 
-  abbrev low : List ℕ
-  low = drop 1 (leaving rows v)
+  keys-few : (i : ℕ) → i < length (leavingKeys rows v) → slotIn (getD (leavingKeys rows v) i 0) < mostRecords
+  keys-few i h =
+      let l = leavingKeys rows v in
+      let a = keys-slots held (slotIn (getD l i 0)) .0 (image-to slotIn (getD l i 0) l (at-∈ l i h)) in
+      omega (arith, leaving-within held (slotIn (getD l i 0)) a, held .small)
 
-  -- v is the oldest of those that leave
-  oldest : (s : ℕ) → s ∈ low → ageKey rows v ≤ ageKey rows s
-  oldest s i =
-      let z = leaving-iff held s .0 (below-iff held s .0 i .0) in
-      let ne = below-iff held s .0 i .1 in
-      let younger = below-younger (held-seen held) (z .1) in
-      elder s (z .0) (z .1) ne younger
-    where
-      elder : (s k : ℕ) → Below (λ a. children (at rows a)) s k v → (s ≡ v → ⊥)
-          → at rows v .timestamp + k ≤ at rows s .timestamp
-          → ageKey rows v ≤ ageKey rows s
-      elder s zero (here e) ne h = absurd (ne e)
-      elder s (suc k) p ne h = omega (arith, h, used-within (held .shaped) v (held .used), held .small)
+  keys-length : length (leavingKeys rows v) ≡ length (leaving rows v)
+  keys-length = inOrder-length (map (ageKey rows) (leaving rows v)) ∙ length-map (leaving rows v) (ageKey rows)
 
-  -- in age order, the deleted card's key comes first, and then those of the slots that wait
-  keys-first : inOrder (map (ageKey rows) (leaving rows v)) ≡ ageKey rows v ∷ inOrder (map (ageKey rows) low)
-  keys-first =
-      ap (λ (l : List ℕ). inOrder (map (ageKey rows) l)) (leaving-first held)
-      ∙ first-in-order (ageKey rows v) (map (ageKey rows) low)
-      (λ y i. let z = image-from (ageKey rows) y low i in rw (z .2) (oldest (z .0) (z .1)))
-
-  pub keys-waiting : drop 1 (map slotIn (inOrder (map (ageKey rows) (leaving rows v)))) ≡ waiting rows v
-  unfolding waiting
-  keys-waiting = ap (λ (l : List ℕ). drop 1 (map slotIn l)) keys-first
-
-  pub leaving-length : length (leaving rows v) ≡ suc (length (waiting rows v))
-  leaving-length = ap length (leaving-first held) ∙ ap suc (sym (waiting-length held))
-
-  -- the slots in the keys are those that leave
-  key-slot : (s : ℕ) → s ∈ leaving rows v → slotIn (ageKey rows s) ≡ s
-  key-slot s i = omega (arith, used-within (held .shaped) s (leaving-used held s i), held .small)
-
-  slots-from : (a : ℕ) → a ∈ map slotIn (inOrder (map (ageKey rows) (leaving rows v))) → a ∈ leaving rows v
-  slots-from a i =
-      let y = image-from slotIn a (inOrder (map (ageKey rows) (leaving rows v))) i in
-      let z =
-      image-from (ageKey rows) (y .0) (leaving rows v)
-      (member-of-inOrder (y .0) (map (ageKey rows) (leaving rows v)) (y .1)) in
-      let e : a ≡ z .0 = y .2 ∙ ap slotIn (z .2) ∙ key-slot (z .0) (z .1) in
-      rw e (z .1)
-
-  slots-to : (a : ℕ) → a ∈ leaving rows v → a ∈ map slotIn (inOrder (map (ageKey rows) (leaving rows v)))
-  slots-to a i =
-      let k = inOrder-of-member (image-to (ageKey rows) a (leaving rows v) i) in
-      rw (key-slot a i) at (image-to slotIn (ageKey rows a) (inOrder (map (ageKey rows) (leaving rows v))) k)
-
-  pub slots-within : (i : ℕ) → i < length (inOrder (map (ageKey rows) (leaving rows v)))
-      → slotIn (getD (inOrder (map (ageKey rows) (leaving rows v))) i 0) < 1024
-  slots-within i h =
-      let l = inOrder (map (ageKey rows) (leaving rows v)) in
-      let a = slots-from (slotIn (getD l i 0)) (image-to slotIn (getD l i 0) l (at-∈ l i h)) in
+  leaving-used-most : length (leaving rows v) ≤ usedIn (length rows) (at rows)
+  leaving-used-most =
       omega (
         arith,
-        used-within (held .shaped) (slotIn (getD l i 0)) (leaving-used held (slotIn (getD l i 0)) a),
-        held .small,
+        used-at-most (held-seen held) (leaving rows v) (leaving-distinct held) (leaving-used held),
+        usedIn-usedCount (length rows) (at rows),
       )
 
-  -- ---- the clock
+  leaving-few : length (leaving rows v) ≤ mostRecords
+  leaving-few = omega (arith, leaving-used-most, usedIn-most (length rows) (at rows), held .small)
 
   -- "the largest among the records that stay"
-  pub staying-largest :
-      largestTimestamp (length rows)
-      (unmarked (marked (inOrder (map (ageKey rows) (leaving rows v))) (replicate 1024 0)) (at rows))
-      ≡ largestTimestamp (length rows) (at (removed rows v))
+  staying-largest :
+      largestTimestamp N (unmarked (marked (leavingKeys rows v) noMarks) (at rows))
+      ≡ largestTimestamp N (at (removed rows v))
   staying-largest =
-      let l = inOrder (map (ageKey rows) (leaving rows v)) in
-      let marks = marked l (replicate 1024 0) in
-      largest-same (length rows) (unmarked marks (at rows)) (at (removed rows v))
+      let l = leavingKeys rows v in
+      let marks = marked l noMarks in
+      largest-same N (unmarked marks (at rows)) (at (removed rows v))
       (λ s b. elim (∈-decide s (leaving rows v)) [
         | yes i ↦
             let e =
-            marked-in l (replicate 1024 0) s (slots-to s i)
-            (omega (arith, length-replicate {A = ℕ} 1024 0, held .small)) in
+            marked-in l noMarks s (keys-slots held s .1 i)
+            (omega (arith, length-replicate {A = ℕ} mostRecords 0, held .small)) in
             timestamp-marked marks (at rows) s (λ z. omega (arith, e, z))
             ∙ sym (timestamp-free (at (removed rows v) s) (ap (λ (r : Record). r .card) (removed-in held s i)))
         | no m ↦
             let st = removed-out held s m in
-            let e = marked-out l (replicate 1024 0) s (λ i. m (slots-from s i)) in
-            timestamp-open marks (at rows) s (e ∙ zeros-at 1024 s)
+            let e = marked-out l noMarks s (λ i. m (keys-slots held s .0 i)) in
+            timestamp-open marks (at rows) s (e ∙ zeros-at mostRecords s)
             ∙ same-in (at rows s) (at (removed rows v) s) (st .card) (st .timestamp)
       ])
     where
       same-in : (r q : Record) → q .card ≡ r .card → q .timestamp ≡ r .timestamp → timestampIn r ≡ timestampIn q
       same-in r q e f = rw (e, f)
 
-  -- ---- the depth
-
-  pub staying-used : usedIn (length rows) (at rows) - length (leaving rows v)
-      ≡ usedIn (length rows) (at (removed rows v))
+  staying-used : usedIn N (at rows) - length (leaving rows v) ≡ usedIn N (at (removed rows v))
   unfolding leaving
   staying-used =
-      let n = length rows in
       let e = removed-usedCount (held-seen held) (held .used) (removed-is held) in
-      let f = rw (usedIn-usedCount n (at rows), usedIn-usedCount n (at (removed rows v))) at e in
+      let f = rw (usedIn-usedCount N (at rows), usedIn-usedCount N (at (removed rows v))) at e in
       omega (arith, f)
 
-  pub staying-root : 1 ≤ usedIn (length rows) (at (removed rows v))
-      → rootOf (length rows) (at rows) ≡ rootOf (length rows) (at (removed rows v))
+  staying-root : 1 ≤ usedIn N (at (removed rows v)) → rootOf N (at rows) ≡ rootOf N (at (removed rows v))
   staying-root some = elim (ℕ-discrete (at rows v .parent) noSlot) [
     | yes e ↦ absurd (omega (arith, removed-all held e, some))
     | no ne ↦ sym (removed-rootOf held ne .1)
   ]
 
+  -- ---- v has left its parent, and its slot is free: the others that leave wait
+
+  abbrev alone : List Record
+  alone = set (unhung v rows) v free
+
+  alone-freed : freedAt (waiting rows v) (set (unhung v rows) v free) ≡ removed rows v
+  unfolding removed
+  alone-freed =
+      freed-same (waiting rows v) (drop 1 (leaving rows v)) alone
+      (λ a. waiting-low held a .0)
+      (λ a. waiting-low held a .1)
+      ∙ sym
+      (ap (λ (l : List ℕ). freedAt l (unhung v rows)) (leaving-first held)
+      ∙ unfold freedAt in refl)
+
+  -- a slot below v is not v's parent, so it is as it was
+  alone-waits : (s : ℕ) → s ∈ waiting rows v → at (set (unhung v rows) v free) s ≡ at rows s
+  alone-waits s i =
+      let z = waiting-iff held s .0 i in
+      getD-set-other (unhung v rows) v s free free (z .1) ∙ unhung-leaving held s (z .0)
+
+  alone-turn :
+      {kind root depth last : ℕ}
+      → kind ≡ kindOf N (at rows)
+      → (1 ≤ depth → root ≡ rootOf N (at (removed rows v)))
+      → depth ≡ usedIn N (at (removed rows v))
+      → last ≡ largestTimestamp N (at (removed rows v))
+      → last + length (waiting rows v) ≤ lastTimestamp
+      → Turn N kind (waiting rows v) (set (unhung v rows) v free) root depth last
+  alone-turn kind-is root-is depth-is last-is clock =
+      record {
+        returnable = rw (kind-is, alone-freed) (returnable-same alone alone-waits (removed-returnable held));
+        linked = λ s i. rw (alone-waits s i) (formed-linked (held .shaped) (held .well-formed) s);
+        depth-is = rw alone-freed depth-is;
+        root-is = rw alone-freed root-is;
+        last-is = rw alone-freed last-is;
+        clock = clock;
+      }
+
 -- ---- in lent bytes
 
--- what the call does with slot v, once the card is known to stand there
-unfoldable pub outcomeAt : List ℕ → ℕ → ℕ → Outcome
-outcomeAt l v arity =
-    pick (clockWouldPass (recordsOf l) v) (refused CLOCK l) (changed (deleted arity (recordsOf l) v))
+-- slot v of the bytes l holds a card; found: what was found in them
+pub record Deletable (l : List ℕ) (v : ℕ) (found : Findings) : Type 0 where
+  pub whole : WholeRecords l
+  pub held : Held (recordsOf l) v
+  pub answers : Answers (recordsIn l) (recordOf l) found
 
-module _ (l : List ℕ) (whole : length l % 64 ≡ 0) (v : ℕ) (held : Held (recordsOf l) v) where
+-- all keys but the first, as they are lent
+abbrev pub laterKeys : List ℕ → List ℕ
+laterKeys keys = take (length keys - 1) (drop 1 keys)
+
+-- what the call has worked out: the keys of all that leave, in age order, and the largest timestamp of those that stay
+pub record Planned (l : List ℕ) (v : ℕ) (found : Findings) (keys : List ℕ) (last : ℕ) : Type 0 where
+  pub deletable : Deletable l v found
+  pub keys-are : keys ≡ leavingKeys (recordsOf l) v
+  pub last-is : last ≡ largestTimestamp (length (recordsOf l)) (at (removed (recordsOf l) v))
+
+-- the card stands in a table that was admitted
+pub present-deletable :
+    (l : List ℕ) (card arity : ℕ) (r : Admitted)
+    → Admits l r
+    → r .refusal ≡ done
+    → leb 1 card && knownArity arity ≡ true
+    → (v : ℕ)
+    → v ≡ slotOfCard (recordsIn l) (recordOf l) card
+    → v < recordsIn l
+    → Deletable l v (r .found)
+present-deletable l card arity r a none right v e h =
+    let ok = admitted-readable l (sym (a .refusal-is) ∙ none) in
+    record {
+      whole = are-whole l (recordsIn l) (right-are l (ok .size));
+      held = rw e (present-held l card arity ok right (omega (arith, h, e)));
+      answers = a .answers none;
+    }
+
+module _ {l : List ℕ} {v : ℕ} {found : Findings} (d : Deletable l v found) where
   as-bytes : (λ (s : ℕ). at (recordsOf l) s) ≡ recordOf l
-  as-bytes i s = records-at l whole s i
+  as-bytes i s = records-at l (d .whole) s i
 
-  pub lent-under : slotsUnder (recordOf l) (usedIn (recordsIn l) (recordOf l)) v ≡ leaving (recordsOf l) v
+  -- what is said of the bytes is said of the rows
+  of-rows : (f : ℕ → (ℕ → Record) → ℕ) → f (recordsIn l) (recordOf l) ≡ f (length (recordsOf l)) (at (recordsOf l))
+  of-rows f =
+      ap (λ (R : ℕ → Record). f (recordsIn l) R) (sym as-bytes)
+      ∙ ap (λ (k : ℕ). f k (at (recordsOf l))) (sym (records-length l))
+
+  found-used : found .used ≡ usedIn (length (recordsOf l)) (at (recordsOf l))
+  found-used = d .answers .used ∙ of-rows usedIn
+
+  pub deletable-few-records : recordsIn l ≤ mostRecords
+  deletable-few-records = rw (← records-length l) (d .held .small)
+
+  pub deletable-walkable : Walkable l
+  deletable-walkable =
+      let here : WellFormed (recordsIn l) (at (recordsOf l)) = rw (← records-length l) (d .held .well-formed) in
+      formed-walkable l (d .whole) (subst (λ (R : ℕ → Record). WellFormed (recordsIn l) R) as-bytes here)
+
+  pub deletable-stands : Stands l v
+  deletable-stands = held-stands l (d .held)
+
+  pub deletable-size : length l ≤ largestTable
+  deletable-size = are-large l (recordsIn l) (whole-are l (d .whole)) deletable-few-records
+
+  under-is : slotsUnder (recordOf l) (found .used) v ≡ leaving (recordsOf l) v
   unfolding leaving
-  lent-under =
-      sym
-      (ap (λ (k : ℕ). under (λ s. children (at (recordsOf l) s)) (usedIn k (at (recordsOf l))) v) (records-length l)
-      ∙ ap (λ (R : ℕ → Record). under (λ s. children (R s)) (usedIn (recordsIn l) R) v) as-bytes)
+  under-is =
+      ap (λ (k : ℕ). slotsUnder (recordOf l) k v) found-used
+      ∙ ap (λ (R : ℕ → Record). under (λ s. children (R s)) (usedIn (length (recordsOf l)) (at (recordsOf l))) v)
+      (sym as-bytes)
 
-  pub lent-largest :
-      largestTimestamp (recordsIn l)
-      (unmarked (marked (inOrder (map (ageKey (recordsOf l)) (leaving (recordsOf l) v))) (replicate 1024 0))
-      (recordOf l))
-      ≡ largestTimestamp (length (recordsOf l)) (at (removed (recordsOf l) v))
-  lent-largest =
-      let marks = marked (inOrder (map (ageKey (recordsOf l)) (leaving (recordsOf l) v))) (replicate 1024 0) in
-      ap (λ (R : ℕ → Record). largestTimestamp (recordsIn l) (unmarked marks R)) (sym as-bytes)
-      ∙ ap (λ (k : ℕ). largestTimestamp k (unmarked marks (at (recordsOf l)))) (sym (records-length l))
-      ∙ staying-largest held
+  pub deletable-few : length (slotsUnder (recordOf l) (found .used) v) ≤ mostRecords
+  deletable-few = rw under-is (leaving-few (d .held))
 
-  lent-used : usedIn (recordsIn l) (recordOf l) ≡ usedIn (length (recordsOf l)) (at (recordsOf l))
-  lent-used =
-      ap (usedIn (recordsIn l)) (sym as-bytes) ∙ ap (λ (k : ℕ). usedIn k (at (recordsOf l))) (sym (records-length l))
+  -- ---- the keys in age order, m of them, at the front of a row
 
-  lent-root : rootOf (recordsIn l) (recordOf l) ≡ rootOf (length (recordsOf l)) (at (recordsOf l))
-  lent-root =
-      ap (rootOf (recordsIn l)) (sym as-bytes) ∙ ap (λ (k : ℕ). rootOf k (at (recordsOf l))) (sym (records-length l))
-
-  lent-kind : kindOf (recordsIn l) (recordOf l) ≡ kindOf (length (recordsOf l)) (at (recordsOf l))
-  lent-kind =
-      ap (kindOf (recordsIn l)) (sym as-bytes) ∙ ap (λ (k : ℕ). kindOf k (at (recordsOf l))) (sym (records-length l))
-
-  -- what the call has worked out of the bytes l: the keys in age order, how many, and the largest timestamp of those
-  -- that stay
-  pub record Planned (keys : List ℕ) (m last : ℕ) : Type 0 where
-    pub keys-are : keys ≡ inOrder (map (ageKey (recordsOf l)) (leaving (recordsOf l) v))
-    pub count-is : m ≡ suc (length (waiting (recordsOf l) v))
-    pub last-is : last ≡ largestTimestamp (length (recordsOf l)) (at (removed (recordsOf l) v))
-
-  pub leaving-few : length (leaving (recordsOf l) v) ≤ 1024
-  leaving-few =
-      omega (
-        arith,
-        used-at-most (held-seen held) (leaving (recordsOf l) v) (leaving-distinct held) (leaving-used held),
-        usedIn-usedCount (length (recordsOf l)) (at (recordsOf l)),
-        usedIn-most (length (recordsOf l)) (at (recordsOf l)),
-        held .small,
-      )
-
-  pub lent-walkable : Walkable l
-  lent-walkable =
-      let here : WellFormed (recordsIn l) (at (recordsOf l)) = rw (← records-length l) (held .well-formed) in
-      formed-walkable l whole (subst (λ (R : ℕ → Record). WellFormed (recordsIn l) R) as-bytes here)
-
-  module _ (n used : ℕ) (n-is : n ≡ recordsIn l) (used-is : used ≡ usedIn n (recordOf l)) where
-    under-is : slotsUnder (recordOf l) used v ≡ leaving (recordsOf l) v
-    under-is =
-        ap (λ (k : ℕ). slotsUnder (recordOf l) k v) (used-is ∙ ap (λ (k : ℕ). usedIn k (recordOf l)) n-is) ∙ lent-under
-
-    pub lent-few : length (slotsUnder (recordOf l) used v) ≤ 1024
-    lent-few = rw under-is leaving-few
-
-    pub lent-first : (m : ℕ) → m ≡ length (slotsUnder (recordOf l) used v)
-        → (m ≡ suc (length (waiting (recordsOf l) v))) × (m ≤ used) × (m ≤ 1024)
-    lent-first m e =
-        let k : m ≡ length (leaving (recordsOf l) v) = e ∙ ap length under-is in (
-          k ∙ leaving-length held,
-          omega (
-            arith,
-            k,
-            used-is,
-            ap (λ (j : ℕ). usedIn j (recordOf l)) n-is,
-            lent-used,
-            used-at-most (held-seen held) (leaving (recordsOf l) v) (leaving-distinct held) (leaving-used held),
-            usedIn-usedCount (length (recordsOf l)) (at (recordsOf l)),
-          ),
-          omega (arith, k, leaving-few),
-        )
-
-    pub lent-order : (keys : List ℕ) → keys ≡ inOrder (map (keyOf (recordOf l)) (slotsUnder (recordOf l) used v))
-        → keys ≡ inOrder (map (ageKey (recordsOf l)) (leaving (recordsOf l) v))
-    lent-order keys e =
-        e
+  module _ (row : List ℕ) (m : ℕ) (count : m ≡ length (slotsUnder (recordOf l) (found .used) v))
+      (order : take m row ≡ inOrder (map (keyOf (recordOf l)) (slotsUnder (recordOf l) (found .used) v))) where
+    ordered-keys : take m row ≡ leavingKeys (recordsOf l) v
+    ordered-keys =
+        order
         ∙ ap (λ (ss : List ℕ). inOrder (map (keyOf (recordOf l)) ss)) under-is
         ∙ ap (λ (R : ℕ → Record). inOrder (map (keyOf R) (leaving (recordsOf l) v))) (sym as-bytes)
 
-    pub lent-length : (keys : List ℕ) → keys ≡ inOrder (map (keyOf (recordOf l)) (slotsUnder (recordOf l) used v))
-        → length keys ≡ length (slotsUnder (recordOf l) used v)
-    lent-length keys e =
-        let ss = slotsUnder (recordOf l) used v in
-        ap length e ∙ inOrder-length (map (keyOf (recordOf l)) ss) ∙ length-map ss (keyOf (recordOf l))
+    ordered-leaving : m ≡ length (leaving (recordsOf l) v)
+    ordered-leaving = count ∙ ap length under-is
 
-    pub lent-slots : (keys : List ℕ) → keys ≡ inOrder (map (keyOf (recordOf l)) (slotsUnder (recordOf l) used v))
-        → (i : ℕ) → i < length keys → slotIn (getD keys i 0) < 1024
-    lent-slots keys e = rw (lent-order keys e) (slots-within held)
+    pub ordered-length : length (take m row) ≡ m
+    ordered-length = ap length ordered-keys ∙ keys-length (d .held) ∙ sym ordered-leaving
 
-    pub lent-plan :
-        (keys : List ℕ) (m last : ℕ)
-        → m ≡ length (slotsUnder (recordOf l) used v)
-        → keys ≡ inOrder (map (keyOf (recordOf l)) (slotsUnder (recordOf l) used v))
-        → last ≡ largestTimestamp n (unmarked (marked keys (replicate 1024 0)) (recordOf l))
-        → Planned keys m last
-    lent-plan keys m last count order largest =
+    pub ordered-in : m ≤ length row
+    ordered-in = omega (arith, ordered-length, length-take m row)
+
+    pub ordered-some : 1 ≤ m
+    ordered-some = omega (arith, ordered-leaving, leaving-length (d .held))
+
+    pub ordered-few : m ≤ mostRecords
+    ordered-few = omega (arith, ordered-leaving, leaving-few (d .held))
+
+    pub ordered-slots : (i : ℕ) → i < length (take m row) → slotIn (getD (take m row) i 0) < mostRecords
+    ordered-slots = rw ordered-keys (keys-few (d .held))
+
+    pub ordered-plan :
+        (last : ℕ)
+        → last ≡ largestTimestamp (recordsIn l) (unmarked (marked (take m row) noMarks) (recordOf l))
+        → Planned l v found (take m row) last
+    ordered-plan last largest =
         record {
-          keys-are = lent-order keys order;
-          count-is = lent-first m count .0;
+          deletable = d;
+          keys-are = ordered-keys;
           last-is =
               largest
-              ∙ ap (λ (k : ℕ). largestTimestamp k (unmarked (marked keys (replicate 1024 0)) (recordOf l))) n-is
-              ∙ ap (λ (q : List ℕ). largestTimestamp (recordsIn l)
-              (unmarked (marked q (replicate 1024 0)) (recordOf l))) (lent-order keys order)
-              ∙ lent-largest;
+              ∙ of-rows (λ k R. largestTimestamp k (unmarked (marked (take m row) noMarks) R))
+              ∙ ap
+              (λ (q : List ℕ).
+              largestTimestamp (length (recordsOf l)) (unmarked (marked q noMarks) (at (recordsOf l))))
+              ordered-keys
+              ∙ staying-largest (d .held);
         }
 
-  module _ {keys : List ℕ} {m last : ℕ} (plan : Planned keys m last) (arity : ℕ) where
-    -- the clock's test, as the call makes it
+module _ {l : List ℕ} {v : ℕ} {found : Findings} {keys : List ℕ} {last : ℕ} (plan : Planned l v found keys last) where
+  abbrev rows : List Record
+  rows = recordsOf l
+
+  abbrev was : Held (recordsOf l) v
+  was = plan .deletable .held
+
+  plan-length : length keys ≡ length (leaving (recordsOf l) v)
+  plan-length = ap length (plan .keys-are) ∙ keys-length was
+
+  plan-count : length keys ≡ suc (length (waiting (recordsOf l) v))
+  plan-count = plan-length ∙ leaving-length was
+
+  pub plan-some : 1 ≤ length keys
+  plan-some = omega (arith, plan-count)
+
+  pub plan-used : length keys ≤ found .used
+  plan-used = omega (arith, plan-length, leaving-used-most was, found-used (plan .deletable))
+
+  -- ---- the clock's test, as the call makes it
+
+  module _ (m : ℕ) (long : length keys ≡ m) (arity : ℕ) where
     clock-is : clockWouldPass (recordsOf l) v ≡ ltb lastTimestamp (last + m - 1)
     unfolding clockWouldPass
     clock-is =
-        let e : largestTimestamp (length (recordsOf l)) (at (removed (recordsOf l) v)) + length
-        (waiting (recordsOf l) v) ≡ last + m - 1 =
-        omega (arith, plan .count-is, plan .last-is) in
+        let sum = largestTimestamp (length rows) (at (removed rows v)) + length (waiting rows v) in
+        let e : sum ≡ last + m - 1 = omega (arith, plan-count, long, plan .last-is) in
         ap (ltb lastTimestamp) e
 
-    pub stopped : lastTimestamp < last + m - 1
+    pub plan-refused : lastTimestamp < last + m - 1
         → _≡_ {A = Outcome} (record { refusal = CLOCK; count = 0; table = l }) (outcomeAt l v arity)
     unfolding outcomeAt refused
-    stopped h = sym (rw (clock-is, lt-ltb lastTimestamp (last + m - 1) h))
+    plan-refused h = sym (rw (clock-is, lt-ltb lastTimestamp (last + m - 1) h))
 
-    module _ (fine : last + m - 1 ≤ lastTimestamp) where
-      -- v has left: those below wait
-      pub begun :
-          (t : List ℕ) (kind root used : ℕ)
-          → arity ≤ 8
-          → length t ≡ length l
-          → recordsOf t ≡ set (unhung v (recordsOf l)) v free
-          → kind ≡ kindOf (recordsIn l) (recordOf l)
-          → root ≡ rootOf (recordsIn l) (recordOf l)
-          → used ≡ usedIn (recordsIn l) (recordOf l)
-          → Pending (recordsOf l) v t (drop 1 (map slotIn keys)) kind arity 0 (used - m) root last
-      begun t kind root used to-8 long became kind-is root-is used-is =
-          let depth : used - m ≡ usedIn (length (recordsOf l)) (at (removed (recordsOf l) v)) =
-          ap (λ (k : ℕ). used - k) (plan .count-is ∙ sym (leaving-length held))
-          ∙ ap (λ (k : ℕ). k - length (leaving (recordsOf l) v)) (used-is ∙ lent-used)
-          ∙ staying-used held in
-          record {
-            held = held;
-            kind-is = kind-is ∙ lent-kind;
-            to-8 = to-8;
-            whole = ap (λ (k : ℕ). k % 64) long ∙ whole;
-            turn =
-                rw (plan .keys-are, keys-waiting held, became)
-                (turn-start held to-8 depth
-                (λ some. root-is ∙ lent-root ∙ staying-root held (omega (arith, some, depth)))
-                (plan .last-is)
-                (omega (arith, fine, plan .count-is)));
-          }
+    -- the bytes t hold what the rule gives
+    pub plan-done :
+        last + m - 1 ≤ lastTimestamp
+        → (t : List ℕ) (count : ℕ)
+        → Bytes t
+        → length t ≡ length l
+        → leaves t count ≡ deleted arity (recordsOf l) v
+        → _≡_ {A = Outcome} (record { refusal = done; count = count; table = t }) (outcomeAt l v arity)
+    unfolding outcomeAt changed
+    plan-done fine t count bytes same e =
+        let clear : clockWouldPass (recordsOf l) v ≡ false = clock-is ∙ le-ltb lastTimestamp (last + m - 1) fine in
+        rw (clear, ← e) (ap kept (sym (bytes-back t bytes (whole-same l t same (plan .deletable .whole)))))
+      where
+        kept : List ℕ → Outcome
+        kept b = record { refusal = done; count = count; table = b }
 
-      pub finished :
-          (t : List ℕ) (count : ℕ)
-          → Bytes t
-          → length t ≡ length l
-          → _≡_ {A = Placed} (record { rows = recordsOf t; count = count }) (deleted arity (recordsOf l) v)
-          → _≡_ {A = Outcome} (record { refusal = done; count = count; table = t }) (outcomeAt l v arity)
-      unfolding outcomeAt changed
-      finished t count bytes long e =
-          let clear : clockWouldPass (recordsOf l) v ≡ false = clock-is ∙ le-ltb lastTimestamp (last + m - 1) fine in
-          rw (clear, ← e) (ap (outcome count) (sym (bytes-back t bytes (ap (λ (k : ℕ). k % 64) long ∙ whole))))
+  -- ---- v has left, and the others wait
+
+  module _ {arity : ℕ} (to-8 : arity ≤ mostChildren) (fine : last + length keys ≤ lastTimestamp + 1)
+      (t : List ℕ) (long : length t ≡ length l) (left : recordsOf t ≡ set (unhung v (recordsOf l)) v free) where
+    slots-are : map slotIn (laterKeys keys) ≡ waiting (recordsOf l) v
+    slots-are =
+        ap (map slotIn) (take-all (length keys - 1) (drop 1 keys) (omega (arith, length-drop 1 keys)))
+        ∙ ap (λ (q : List ℕ). map slotIn (drop 1 q)) (plan .keys-are)
+        ∙ keys-waiting was
+
+    kind-is : found .kind ≡ kindOf (length (recordsOf l)) (at (recordsOf l))
+    kind-is = plan .deletable .answers .kind ∙ of-rows (plan .deletable) kindOf
+
+    root-is : 1 ≤ usedIn (length (recordsOf l)) (at (removed (recordsOf l) v))
+        → found .root ≡ rootOf (length (recordsOf l)) (at (removed (recordsOf l) v))
+    root-is some = plan .deletable .answers .root ∙ of-rows (plan .deletable) rootOf ∙ staying-root was some
+
+    depth-is : found .used - length keys ≡ usedIn (length (recordsOf l)) (at (removed (recordsOf l) v))
+    depth-is =
+        ap (λ (k : ℕ). k - length keys) (found-used (plan .deletable))
+        ∙ ap (λ (k : ℕ). usedIn (length rows) (at rows) - k) plan-length
+        ∙ staying-used was
+
+    pub plan-pending :
+        Pending t (map slotIn (laterKeys keys)) (found .kind) arity (found .root) (found .used - length keys) last
+    plan-pending =
+        let same : recordsIn t ≡ length (recordsOf l) = in-same l t long ∙ sym (records-length l) in
+        record {
+          whole = whole-same l t long (plan .deletable .whole);
+          to-8 = to-8;
+          turn =
+              rw (slots-are, left, same)
+              (alone-turn was kind-is (λ some. root-is (omega (arith, some, depth-is))) depth-is (plan .last-is)
+              (omega (arith, fine, plan-count)));
+        }
+
+    -- putting them back is what is left of the rule
+    pub plan-rest : restBack (found .kind) arity t (map slotIn (laterKeys keys)) 0 ≡ deleted arity (recordsOf l) v
+    unfolding deleted
+    plan-rest =
+        rw (slots-are, kind-is)
+        (restBack-over (kindOf (length rows) (at rows)) arity t (waiting rows v) rows (removed rows v)
+        (ap (freedAt (waiting rows v)) left ∙ alone-freed was)
+        (λ s i. ap (λ (q : List Record). at q s) left ∙ alone-waits was s i))

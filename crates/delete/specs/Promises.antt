@@ -15,6 +15,7 @@ use Rattle.table.specs.Records.{records-length}
 use Rattle.table.specs.RoundTrip.{row-fits, rows-back}
 use Rattle.judge.specs.WellFormed.{WellFormed}
 use Rattle.survey.specs.Survey.{slotOfCard}
+use Rattle.refusals.specs.Limits.{mostChildren}
 use Rattle.refusals.specs.Refusal.{done}
 use Rattle.view.specs.Sound.{SoundTable}
 use Rattle.placing.specs.Stored.{Stored}
@@ -22,8 +23,8 @@ use Rattle.newcomer.specs.Newcomer.{Newcomer}
 use Rattle.placing.specs.Changed.{changed}
 use Rattle.refusals.specs.Outcome.{refused}
 use Rattle.delete.specs.Delete.{deleted, refusalOf, deleteOf}
-use Rattle.delete.specs.Leaving.{Held}
-use Rattle.delete.specs.Returning.{deleted-returned, deleted-sound, deleted-stored, deleted-free}
+use Rattle.removal.specs.Leaving.{Held}
+use Rattle.delete.specs.Deleted.{deleted-returned, deleted-sound, deleted-stored, deleted-free}
 use Rattle.delete.specs.Call.{accepted-held, accepted-arity, accepted-clock, accepted-slot}
 use Rattle.delete.specs.Fits.{deleted-fits}
 
@@ -44,7 +45,9 @@ module _ (l : List ℕ) (card arity : ℕ) where
   unfolding deleteOf refused changed
   refused-touches-nothing no′ = go (eqb (refusalOf l card arity) done) no′
     where
-      go : (b : Bool) → (pick b (changed (deleted arity (recordsOf l) v)) (refused (refusalOf l card arity) l) .refusal ≡ done → ⊥)
+      go :
+          (b : Bool)
+          → (pick b (changed (deleted arity (recordsOf l) v)) (refused (refusalOf l card arity) l) .refusal ≡ done → ⊥)
           → (pick b (changed (deleted arity (recordsOf l) v)) (refused (refusalOf l card arity) l) .count ≡ 0)
           × (pick b (changed (deleted arity (recordsOf l) v)) (refused (refusalOf l card arity) l) .table ≡ l)
       go true n = absurd (n refl)
@@ -66,7 +69,7 @@ module _ (l : List ℕ) (card arity : ℕ) where
     held : Held (recordsOf l) v
     held = accepted-held l card arity none
 
-    to-8 : arity ≤ 8
+    to-8 : arity ≤ mostChildren
     to-8 = accepted-arity l card arity none
 
     module _ (bytes : Bytes l) where
@@ -75,7 +78,8 @@ module _ (l : List ℕ) (card arity : ℕ) where
       unfolding deleteOf changed
       holds-deleted =
           rw (eq-eqb (refusalOf l card arity) done none)
-          (rows-back (deleted arity (recordsOf l) v .rows) (deleted-fits held to-8 (row-fits l bytes) (accepted-clock l card arity none)))
+          (rows-back (deleted arity (recordsOf l) v .rows)
+          (deleted-fits held to-8 (row-fits l bytes) (accepted-clock l card arity none)))
 
       pub keeps-size : recordsIn (deleteOf l card arity .table) ≡ recordsIn l
       keeps-size =
@@ -96,7 +100,8 @@ module _ (l : List ℕ) (card arity : ℕ) where
       keeps-formed = held-by WellFormed (deleted-returned held to-8 .well-formed)
 
       -- a sound table stays sound, whatever the arity
-      pub keeps-sound : SoundTable (recordsIn l) (tableOf l) → SoundTable (recordsIn l) (tableOf (deleteOf l card arity .table))
+      pub keeps-sound :
+          SoundTable (recordsIn l) (tableOf l) → SoundTable (recordsIn l) (tableOf (deleteOf l card arity .table))
       keeps-sound ok =
           held-by SoundTable
           (deleted-sound held to-8 (subst (λ (k : ℕ). SoundTable k (tableOf l)) (sym (records-length l)) ok))

@@ -1,12 +1,15 @@
 // The largest timestamp among the records that stay.
 ghost use mathlib.Core.Path.{_≡_};
-ghost use Prim.Native.Nat.{ℕ, _+_, _*_, _%_, _≤_, _<_, max};
-ghost use lib.ListN.{length, getD, replicate};
+ghost use Prim.Native.Nat.{ℕ, _≤_, _<_, max};
+ghost use lib.ListN.{length, getD};
 ghost use Rattle.refusals.specs.Limits.{mostRecords};
 ghost use Rattle.table.specs.Record.{recordOf};
 ghost use Rattle.table.specs.Stands.{Stands, StandTo};
 ghost use Rattle.survey.specs.Survey.{largestTimestamp};
-ghost use Rattle.delete.specs.Clock.{slotIn, marked, unmarked, timestampIn};
+ghost use Rattle.back.specs.Age.{slotIn};
+ghost use Rattle.delete.specs.Loop.Clock.{noMarks, marked, unmarked, timestampIn};
+use back::SLOTS;
+use refusals::limit::RECORDS;
 
 // Marks the slots in these keys. At each turn those in the first i are.
 pub(crate) fn mark(keys: &[u64], marks: &mut [u8])
@@ -15,7 +18,7 @@ pub(crate) fn mark(keys: &[u64], marks: &mut [u8])
 {
     let mut i = 0;
     while i < keys.len() {
-        let s = (keys[i] % 65536) as usize;
+        let s = (keys[i] % SLOTS) as usize;
         marks[s] = 1;
         i += 1;
     }
@@ -41,7 +44,8 @@ fn staying_timestamp(t: &[u8], marks: &[u8], s: usize) -> u32
     table::timestamp_of(t, s)
 }
 
-// The largest timestamp of the records whose slots are not marked, 0 if there is none. At each turn it is that of the first s.
+// The largest timestamp of the records whose slots are not marked, 0 if there is none. At each turn it is that of the
+// first s.
 pub(crate) fn largest_staying(t: &[u8], marks: &[u8], n: usize) -> u32
     requires { ⌜ StandTo (now t) n × (n ≤ length (now marks)) ⌝ }
     ensures { λ r. ⌜ r ≡ largestTimestamp n (unmarked (now (marks .entry)) (recordOf (now (t .entry)))) ⌝ }
@@ -58,11 +62,11 @@ pub(crate) fn largest_staying(t: &[u8], marks: &[u8], n: usize) -> u32
 // The largest timestamp of the n records whose slots are not in these keys, 0 if there is none.
 pub(crate) fn last_staying(t: &[u8], keys: &[u64], n: usize) -> u32
     requires { ⌜ StandTo (now t) n × (n ≤ mostRecords)
-        × ((i : ℕ) → i < length (now keys) → slotIn (getD (now keys) i 0) < 1024) ⌝ }
+        × ((i : ℕ) → i < length (now keys) → slotIn (getD (now keys) i 0) < mostRecords) ⌝ }
     ensures { λ r. ⌜ r
-        ≡ largestTimestamp n (unmarked (marked (now (keys .entry)) (replicate 1024 0)) (recordOf (now (t .entry)))) ⌝ }
+        ≡ largestTimestamp n (unmarked (marked (now (keys .entry)) noMarks) (recordOf (now (t .entry)))) ⌝ }
 {
-    let mut marks = [0u8; 1024];
+    let mut marks = [0u8; RECORDS];
     mark(keys, &mut marks);
     largest_staying(t, &marks, n)
 }

@@ -1,24 +1,13 @@
 // The slots at or below a record, as keys in age order.
 ghost use mathlib.Core.Path.{_≡_};
-ghost use mathlib.Core.List.{List, map};
-ghost use Prim.Native.Nat.{_+_, _*_, _≤_, _<_};
-ghost use lib.ListN.{length, set, take};
-ghost use Rattle.order.specs.Order.{inOrder};
+ghost use Prim.Native.Nat.{_+_, _≤_};
+ghost use lib.ListN.{length, take};
 ghost use Rattle.refusals.specs.Limits.{mostRecords};
 ghost use Rattle.table.specs.Record.{recordOf, largestTable};
 ghost use Rattle.table.specs.Stands.{Stands, Walkable};
-ghost use Rattle.delete.specs.Gather.{Gathered, keyOf, slotsUnder, gathered};
-
-// A key is a timestamp and a slot: the timestamp counts in steps of this many.
-const SLOTS: u64 = 65536;
-
-// Writes the key of slot s at place m.
-fn note_key(t: &[u8], s: usize, keys: &mut [u64], m: usize)
-    requires { ⌜ Stands (now t) s × (length (now t) ≤ largestTable) × (m < length (now keys)) ⌝ }
-    ensures { λ _. ⌜ now (keys .exit) ≡ set (now (keys .entry)) m (keyOf (recordOf (now (t .entry))) s) ⌝ }
-{
-    keys[m] = table::timestamp_of(t, s) as u64 * SLOTS + s as u64;
-}
+ghost use Rattle.delete.specs.Loop.Gather.{Gathered, slotsUnder, keysUnder, gathered};
+use back::note_key;
+use back::oldest_first;
 
 // How many children the record in slot s has.
 fn child_count(t: &[u8], s: usize) -> usize
@@ -28,8 +17,8 @@ fn child_count(t: &[u8], s: usize) -> usize
     table::count_of(t, s) as usize
 }
 
-// Writes the keys of slot a and of all below it from place m on, and returns the place after the last; `left` is the depth left.
-// At each turn the keys of a and of what stands at or below its first k children are written.
+// Writes the keys of slot a and of all below it from place m on, and returns the place after the last; `left` is the
+// depth left. At each turn the keys of a and of what stands at or below its first k children are written.
 fn gather(t: &[u8], a: usize, keys: &mut [u64], m: usize, left: usize) -> usize
     requires { ⌜ Walkable (now t) × Stands (now t) a × (length (now t) ≤ largestTable)
         × (m + length (slotsUnder (recordOf (now t)) left a) ≤ length (now keys)) ⌝ }
@@ -51,15 +40,15 @@ fn gather(t: &[u8], a: usize, keys: &mut [u64], m: usize, left: usize) -> usize
     at
 }
 
-// The keys of slot v and of all below it, in age order: v's own comes first, since all below it are younger. Returns how many.
+// The keys of slot v and of all below it, in age order: v's own comes first, since all below it are younger. Returns
+// how many.
 pub(crate) fn in_age_order(t: &[u8], v: usize, used: usize, keys: &mut [u64]) -> usize
     requires { ⌜ Walkable (now t) × Stands (now t) v × (length (now t) ≤ largestTable)
         × (length (slotsUnder (recordOf (now t)) used v) ≤ length (now keys)) × (length (now keys) ≤ mostRecords) ⌝ }
     ensures { λ r. ⌜ (r ≡ length (slotsUnder (recordOf (now (t .entry))) used v))
-        × (take r (now (keys .exit)) ≡ inOrder (map (keyOf (recordOf (now (t .entry)))) (slotsUnder (recordOf (now (t .entry))) used v))) ⌝ }
+        × (take r (now (keys .exit)) ≡ keysUnder (recordOf (now (t .entry))) used v) ⌝ }
 {
-    let mut room = [0u64; 1024];
     let m = gather(t, v, keys, 0, used);
-    order::sort(&mut keys[..m], &mut room);
+    oldest_first(&mut keys[..m]);
     m
 }

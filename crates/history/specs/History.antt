@@ -1,6 +1,8 @@
 -- A history: calls on one table that starts cleared, accepted or refused, in any order, with any arguments.
 -- The stored cards are read from the calls alone: "each with the kind and signature that its accepted insert brought,
 -- until its accepted delete or a clear".
+-- A further call that reads is named in `Reading` and says in `tellsOf` what it reports, no more. One that writes is
+-- named in `Writing`: its arguments' types, its outcome, and what is then stored.
 use Prim.Native.Nat.{ℕ, _^_, _<_}
 use mathlib.Core.List.{List, [], _∷_}
 use lib.Dec.{eqb}
@@ -18,21 +20,34 @@ use Rattle.delete.specs.Delete.{deleteOf}
 use Rattle.search.specs.Search.{searchOf, Outcome as Listing}
 use Rattle.soundness.specs.Soundness.{checkOf}
 
--- the five calls; a signature and a list are what the caller lends
-pub data Call : Type 0 where
-  clear : Call
-  insert : (card kind arity : ℕ) (signature : List ℕ) → Call
-  delete : (card arity : ℕ) → Call
-  search : (kind : ℕ) (signature : List ℕ) (radius : ℕ) (list : List ℕ) → Call
-  check : Call
+-- ---- the calls; a signature and a list are what the caller lends
 
--- arguments are numbers of their types: a card is a 32-bit number, a signature is bytes
+-- those that write: they change the table, if they are accepted
+pub data Writing : Type 0 where
+  clear : Writing
+  insert : (card kind arity : ℕ) (signature : List ℕ) → Writing
+  delete : (card arity : ℕ) → Writing
+
+-- those that read: table and stored cards stay, whatever they are asked
+pub data Reading : Type 0 where
+  search : (kind : ℕ) (signature : List ℕ) (radius : ℕ) (list : List ℕ) → Reading
+  check : Reading
+
+pub data Call : Type 0 where
+  writes : Writing → Call
+  reads : Reading → Call
+
+-- the arguments of a call that writes are numbers of their types: a card is a 32-bit number, a signature is bytes
+abbrev pub TypedWriting : Writing → Type 0
+TypedWriting clear = Unit {0}
+TypedWriting (insert card kind arity signature) = (card < 2 ^ 32) × Bytes signature
+TypedWriting (delete card arity) = Unit {0}
+
 abbrev pub Typed : Call → Type 0
-Typed clear = Unit {0}
-Typed (insert card kind arity signature) = (card < 2 ^ 32) × Bytes signature
-Typed (delete card arity) = Unit {0}
-Typed (search kind signature radius list) = Bytes signature
-Typed check = Unit {0}
+Typed (writes c) = TypedWriting c
+Typed (reads r) = Unit {0}
+
+-- ---- table and stored cards
 
 -- the table, and the cards that are stored according to the calls
 pub record State : Type 0 where
@@ -48,29 +63,27 @@ unfoldable pub without : ℕ → List Newcomer → List Newcomer
 without card [] = []
 without card (x ∷ xs) = pick (eqb (x .card) card) (without card xs) (x ∷ without card xs)
 
+-- what a call that writes leaves of the table's bytes l, with its refusal and its distance count
+unfoldable pub outcomeOf : Writing → List ℕ → Outcome
+outcomeOf clear l = record { refusal = clearOf l .refusal; count = 0; table = clearOf l .table }
+outcomeOf (insert card kind arity signature) l = insertOf l card kind arity signature
+outcomeOf (delete card arity) l = deleteOf l card arity
+
+-- what is stored after it, if it is accepted
+unfoldable pub storedBy : Writing → List Newcomer → List Newcomer
+storedBy clear stored = []
+storedBy (insert card kind arity signature) stored =
+    record { card = card; kind = kind; readings = readingsAt signature 0 } ∷ stored
+storedBy (delete card arity) stored = without card stored
+
 -- what a call makes of table and stored cards: only an accepted call (refusal 0) changes what is stored
 unfoldable pub after : Call → State → State
-after clear st =
+after (writes c) st =
     record {
-      table = clearOf (st .table) .table;
-      stored = pick (eqb (clearOf (st .table) .refusal) done) [] (st .stored);
+      table = outcomeOf c (st .table) .table;
+      stored = pick (eqb (outcomeOf c (st .table) .refusal) done) (storedBy c (st .stored)) (st .stored);
     }
-after (insert card kind arity signature) st =
-    record {
-      table = insertOf (st .table) card kind arity signature .table;
-      stored =
-          pick
-          (eqb (insertOf (st .table) card kind arity signature .refusal) done)
-          (record { card = card; kind = kind; readings = readingsAt signature 0 } ∷ st .stored)
-          (st .stored);
-    }
-after (delete card arity) st =
-    record {
-      table = deleteOf (st .table) card arity .table;
-      stored = pick (eqb (deleteOf (st .table) card arity .refusal) done) (without card (st .stored)) (st .stored);
-    }
-after (search kind signature radius list) st = st
-after check st = st
+after (reads r) st = st
 
 -- after all calls of a history, the first one first
 unfoldable pub run : List Call → State → State
@@ -94,19 +107,20 @@ pub record Line : Type 0 where
 abbrev pub line : ℕ → ℕ → ℕ → List ℕ → Line
 line refusal count found cards = record { refusal = refusal; count = count; found = found; cards = cards }
 
-abbrev ofChange : Outcome → Line
-ofChange o = line (o .refusal) (o .count) 0 []
+abbrev ofOutcome : Outcome → Line
+ofOutcome o = line (o .refusal) (o .count) 0 []
 
 abbrev ofListing : Listing → Line
 ofListing o = line (o .refusal) (o .count) (o .found) (take (o .found) (o .list))
 
 -- "distance count (0 for check), cards found (0 but for search), then the cards"
+unfoldable pub tellsOf : Reading → List ℕ → Line
+tellsOf (search kind signature radius list) l = ofListing (searchOf l kind signature radius list)
+tellsOf check l = line (checkOf l) 0 0 []
+
 unfoldable pub reportOf : Call → State → Line
-reportOf clear st = line (clearOf (st .table) .refusal) 0 0 []
-reportOf (insert card kind arity signature) st = ofChange (insertOf (st .table) card kind arity signature)
-reportOf (delete card arity) st = ofChange (deleteOf (st .table) card arity)
-reportOf (search kind signature radius list) st = ofListing (searchOf (st .table) kind signature radius list)
-reportOf check st = line (checkOf (st .table)) 0 0 []
+reportOf (writes c) st = ofOutcome (outcomeOf c (st .table))
+reportOf (reads r) st = tellsOf r (st .table)
 
 -- what all calls of a history report, the first one first
 unfoldable pub reports : List Call → State → List Line

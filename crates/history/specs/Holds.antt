@@ -6,8 +6,7 @@ use mathlib.Core.Bool.{true}
 use mathlib.Core.Logic.{_↔_}
 use mathlib.Core.List.{List, [], List·Memᴰ, List·Memᴰ·not-nil}
 use native.Mathlib.Omega.{arith}
-use lib.ListN.{length, replicate}
-use Rattle.places.specs.Fill.{zeros-at}
+use lib.ListN.{length}
 use Rattle.number.specs.Frame.{Bytes}
 use Rattle.table.specs.Record.{Record, Used, recordOf}
 use Rattle.refusals.specs.Limits.{mostRecords}
@@ -27,11 +26,8 @@ use Rattle.history.specs.Demands.{Holds, cardsOf}
 
 -- ---- a cleared table
 
-pub zeros-bytes : (m : ℕ) → Bytes (replicate m 0)
-zeros-bytes m i = omega (arith, zeros-at m i)
-
-pub zeros-hold : (n : ℕ) → Holds n (record { table = freeTable n; stored = [] })
-zeros-hold n =
+pub free-holds : (n : ℕ) → Holds n (record { table = freeTable n; stored = [] })
+free-holds n =
     let l = freeTable n in
     let wf : WellFormed n (recordOf l) = free-formed (λ s b. free-table n s) in
     let unused : (s : ℕ) → Used (recordOf l s) → ⊥ =
@@ -55,7 +51,7 @@ zeros-hold n =
 
 pub cleared-holds : (n : ℕ) → Holds n (cleared n)
 unfolding cleared
-cleared-holds n = zeros-hold n
+cleared-holds n = free-holds n
 
 -- ---- the size
 

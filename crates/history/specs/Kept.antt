@@ -1,7 +1,7 @@
 -- Every call, accepted or refused, keeps what holds of a history's table and stored cards (`after-holds`), and so that
 -- holds after every history (`run-holds`). From what insert and delete promise of their outcomes, which their contracts
 -- equate with what the code does. Assumes nothing.
-use Prim.Native.Nat.{ℕ, _^_, _≤_, _<_}
+use Prim.Native.Nat.{ℕ, _≤_}
 use mathlib.Core.Path.{_≡_, sym, ap, subst, _∙_}
 use mathlib.Core.Bool.{true}
 use mathlib.Core.Logic.{_↔_, _⊎_, inl, inr}
@@ -9,7 +9,6 @@ use mathlib.Core.List.{List, [], _∷_, List·Memᴰ, List·Memᴰ·head as firs
 use native.Mathlib.Decide.{ℕ-discrete}
 use lib.ListN.{length}
 use borrow.Author.Tests.{eq-eqb, ne-eqb}
-use Rattle.number.specs.Frame.{Bytes}
 use Rattle.table.specs.Record.{recordOf}
 use Rattle.refusals.specs.Limits.{mostRecords}
 use Rattle.table.specs.Table.{rightSize, recordsIn, recordsOf, at}
@@ -27,11 +26,11 @@ use Rattle.insert.specs.Accepted.{comer, accepted-ready}
 use Rattle.insert.specs.Promises as Inserts
 use Rattle.delete.specs.Delete.{deleted, deleteOf}
 use Rattle.delete.specs.Promises as Deletes
-use Rattle.history.specs.History.{Call, clear, insert, delete, search, check, Typed, AllTyped}
-use Rattle.history.specs.History.{State, cleared, without, after, run}
+use Rattle.history.specs.History.{Writing, clear, insert, delete, TypedWriting, outcomeOf, storedBy}
+use Rattle.history.specs.History.{Call, writes, reads, Typed, AllTyped, State, cleared, without, after, run}
 use Rattle.history.specs.Demands.{Holds, cardsOf}
-use Rattle.history.specs.Refused.{insert-none, insert-bytes, delete-bytes}
-use Rattle.history.specs.Holds.{zeros-hold, cleared-holds, sized, records-are, table-holds}
+use Rattle.history.specs.Refused.{clear-untouched, insert-none, insert-bytes, delete-bytes}
+use Rattle.history.specs.Holds.{free-holds, cleared-holds, sized, records-are, table-holds}
 
 -- ---- the stored cards
 
@@ -89,7 +88,8 @@ module _ (c : ℕ) where
 
 -- ---- insert
 
-module _ (st : State) (card kind arity : ℕ) (signature : List ℕ) (typed : (card < 2 ^ 32) × Bytes signature)
+module _ (st : State) (card kind arity : ℕ) (signature : List ℕ)
+    (typed : TypedWriting (insert card kind arity signature))
     (right : rightSize (length (st .table)) ≡ true) (h : Holds (recordsIn (st .table)) st)
     (e : insertOf (st .table) card kind arity signature .refusal ≡ done) where
   insert-holds :
@@ -163,48 +163,53 @@ module _ (st : State) (card arity : ℕ) (right : rightSize (length (st .table))
       ))
       (without-once card (st .stored) (h .once))
 
--- ---- clear
+-- ---- every call that writes: accepted, it leaves what is asked; refused, it leaves the table
 
-clear-holds : (n : ℕ) (st : State) → rightSize (length (st .table)) ≡ true → Holds n st → Holds n (after clear st)
-unfolding after
-clear-holds n st right h =
-    rw (clear-done (st .table) right, are-free (st .table) n (h .size)) (zeros-hold n)
+-- insert and delete speak of as many records as the bytes hold
+counted :
+    {n : ℕ} {st left : State}
+    → Holds n st
+    → (Holds (recordsIn (st .table)) st → Holds (recordsIn (st .table)) left)
+    → Holds n left
+counted {n} {st} {left} h f =
+    subst (λ (k : ℕ). Holds k left) (records-are h) (f (subst (λ (k : ℕ). Holds k st) (sym (records-are h)) h))
+
+module _ {n : ℕ} (some : 1 ≤ n) (small : n ≤ mostRecords) where
+  accepted-holds :
+      (c : Writing)
+      → TypedWriting c
+      → (st : State)
+      → Holds n st
+      → outcomeOf c (st .table) .refusal ≡ done
+      → Holds n (record { table = outcomeOf c (st .table) .table; stored = storedBy c (st .stored) })
+  unfolding outcomeOf storedBy
+  accepted-holds clear typed st h e =
+      rw (clear-done (st .table) (sized some small h), are-free (st .table) n (h .size)) (free-holds n)
+  accepted-holds (insert card kind arity signature) typed st h e =
+      counted h (λ own. insert-holds st card kind arity signature typed (sized some small h) own e)
+  accepted-holds (delete card arity) typed st h e =
+      counted h (λ own. delete-holds st card arity (sized some small h) own e)
+
+pub outcomeOf-refused : (c : Writing) (l : List ℕ) → (outcomeOf c l .refusal ≡ done → ⊥) → outcomeOf c l .table ≡ l
+unfolding outcomeOf
+outcomeOf-refused clear l ne = clear-untouched l ne
+outcomeOf-refused (insert card kind arity signature) l ne =
+    Inserts.refused-touches-nothing l card kind arity signature ne .1
+outcomeOf-refused (delete card arity) l ne = Deletes.refused-touches-nothing l card arity ne .1
 
 -- ---- every call
 
 module _ {n : ℕ} (some : 1 ≤ n) (small : n ≤ mostRecords) where
   pub after-holds : (c : Call) → Typed c → (st : State) → Holds n st → Holds n (after c st)
   unfolding after
-  after-holds clear typed st h = clear-holds n st (sized some small h) h
-  after-holds (insert card kind arity signature) typed st h =
-      let l = st .table in
-      let o = insertOf l card kind arity signature in
-      elim (ℕ-discrete (o .refusal) done) [
+  after-holds (writes c) typed st h =
+      elim (ℕ-discrete (outcomeOf c (st .table) .refusal) done) [
         | yes e ↦
-            let own = subst (λ (k : ℕ). Holds k st) (sym (records-are h)) h in
-            rw (eq-eqb (o .refusal) done e)
-            (subst
-            (λ (k : ℕ). Holds k (record { table = o .table; stored = comer card kind signature ∷ st .stored }))
-            (records-are h)
-            (insert-holds st card kind arity signature typed (sized some small h) own e))
+            rw (eq-eqb (outcomeOf c (st .table) .refusal) done e) (accepted-holds some small c typed st h e)
         | no ne ↦
-            rw (ne-eqb (o .refusal) done ne, Inserts.refused-touches-nothing l card kind arity signature ne .1) h
+            rw (ne-eqb (outcomeOf c (st .table) .refusal) done ne, outcomeOf-refused c (st .table) ne) h
       ]
-  after-holds (delete card arity) typed st h =
-      let l = st .table in
-      let o = deleteOf l card arity in
-      elim (ℕ-discrete (o .refusal) done) [
-        | yes e ↦
-            let own = subst (λ (k : ℕ). Holds k st) (sym (records-are h)) h in
-            rw (eq-eqb (o .refusal) done e)
-            (subst
-            (λ (k : ℕ). Holds k (record { table = o .table; stored = without card (st .stored) }))
-            (records-are h)
-            (delete-holds st card arity (sized some small h) own e))
-        | no ne ↦ rw (ne-eqb (o .refusal) done ne, Deletes.refused-touches-nothing l card arity ne .1) h
-      ]
-  after-holds (search kind signature radius list) typed st h = h
-  after-holds check typed st h = h
+  after-holds (reads r) typed st h = h
 
   pub all-hold : (cs : List Call) → AllTyped cs → (st : State) → Holds n st → Holds n (run cs st)
   unfolding run

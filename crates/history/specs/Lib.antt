@@ -1,5 +1,10 @@
--- What a history is (History), what is asked (Demands), and the promises: demand 3 as one theorem over histories,
--- demand 1, and the contracts' determinism (Promises); P1 to P13 as one table (Edges).
+-- Where to find what:
+-- History    what a history is: the calls, what each makes of table and stored cards, and what it reports
+-- Demands    what is asked: of a table after a history, of an accepted search, of a refusal
+-- Promises   the promises, whole: demand 1 for each call, demand 3 over histories, and that contracts fix outcomes
+-- The other files prove them: each call's two cases (Refused); what holds in a cleared table and in one that a call
+-- leaves (Holds); that every call keeps it (Kept); and what a search and a check give where it holds (Searched).
+-- The paper's listing and P1 to P13 are in the crate `listing`.
 pub mod History
 pub mod Demands
 pub mod Refused
@@ -7,5 +12,3 @@ pub mod Holds
 pub mod Kept
 pub mod Searched
 pub mod Promises
-pub mod OnRows
-pub mod Edges

@@ -8,13 +8,13 @@ use mathlib.Core.List.{List, [], _∷_}
 use lib.Dec.{leb, ltb, eqb}
 use lib.ListN.{length}
 use Rattle.table.specs.Record.{recordOf}
-use Rattle.refusals.specs.Limits.{mostRecords, knownArity, lastTimestamp}
+use Rattle.refusals.specs.Limits.{mostRecords, knownArity, lastTimestamp, signatureLength}
 use Rattle.table.specs.Table.{rightSize, recordsIn, recordsOf}
 use Rattle.table.specs.Clear.{Cleared, clearOf}
 use Rattle.judge.specs.WellFormed.{wellFormed}
 use Rattle.survey.specs.Survey.{usedIn, slotOfCard, lowestFree, largestTimestamp}
 use Rattle.refusals.specs.Refusal.{SIZE, TABLE, ARGUMENT, KIND, TWICE, ABSENT, FULL, CLOCK, SHORT, LOOSE, firstOf, done}
-use Rattle.view.specs.Refusal.{otherKind}
+use Rattle.admission.specs.Query.{otherKind}
 use Rattle.distance.specs.Kind.{knownKind}
 use Rattle.insert.specs.Insert.{insertOf, rightArguments}
 use Rattle.refusals.specs.Outcome.{Outcome}
@@ -45,7 +45,7 @@ module _ (l : List ℕ) where
       → Refuses
       ((not (rightSize (length l)), SIZE)
       ∷ (not (wellFormed (recordsIn l) (recordOf l)), TABLE)
-      ∷ (not ((leb 1 card && knownArity arity) && (knownKind kind && eqb (length signature) 32)), ARGUMENT)
+      ∷ (not ((leb 1 card && knownArity arity) && (knownKind kind && eqb (length signature) signatureLength)), ARGUMENT)
       ∷ (otherKind (recordsIn l) (recordOf l) kind, KIND)
       ∷ (ltb (slotOfCard (recordsIn l) (recordOf l) card) (recordsIn l), TWICE)
       ∷ (leb (recordsIn l) (lowestFree (recordsIn l) (recordOf l)), FULL)
@@ -80,7 +80,7 @@ module _ (l : List ℕ) where
       → Refuses
       ((not (rightSize (length l)), SIZE)
       ∷ (not (wellFormed (recordsIn l) (recordOf l)), TABLE)
-      ∷ (not (knownKind kind && eqb (length signature) 32), ARGUMENT)
+      ∷ (not (knownKind kind && eqb (length signature) signatureLength), ARGUMENT)
       ∷ (otherKind (recordsIn l) (recordOf l) kind, KIND)
       ∷ (ltb (length list) (usedIn (recordsIn l) (recordOf l)), SHORT)
       ∷ [])
@@ -106,30 +106,30 @@ module _ (l : List ℕ) where
 -- ---- demand 3: after every history of calls on a table of n records that starts cleared
 
 module _ {n : ℕ} (some : 1 ≤ n) (small : n ≤ mostRecords) (calls : List Call) (typed : AllTyped calls) where
-  -- the table and the stored cards then
-  abbrev now : State
-  now = run calls (cleared n)
+  -- the table and the stored cards that they lead to
+  abbrev reached : State
+  reached = run calls (cleared n)
 
   -- the table is well formed and sound, and its used records are exactly the stored cards
-  pub history-holds : Holds n (run calls (cleared n))
+  pub history-holds : Holds n reached
   history-holds = run-holds some small calls typed
 
   -- every accepted search lists each stored card within the radius once and no other, and compares none twice
   pub history-search :
       (kind : ℕ) (signature : List ℕ) (radius : ℕ) (list : List ℕ)
-      → searchOf (now .table) kind signature radius list .refusal ≡ done
-      → Finds (run calls (cleared n)) kind signature radius list (searchOf (now .table) kind signature radius list)
+      → searchOf (reached .table) kind signature radius list .refusal ≡ done
+      → Finds reached kind signature radius list (searchOf (reached .table) kind signature radius list)
   history-search kind s r list = search-finds some small history-holds kind s r list
 
   -- a smaller radius never costs more distances
   pub history-narrower :
       (kind : ℕ) (signature list : List ℕ) {r r′ : ℕ}
       → r ≤ r′
-      → searchOf (now .table) kind signature r list .count ≤ searchOf (now .table) kind signature r′ list .count
-  history-narrower kind s list h = count-narrower (now .table) kind s list h
+      → searchOf (reached .table) kind signature r list .count ≤ searchOf (reached .table) kind signature r′ list .count
+  history-narrower kind s list h = count-narrower (reached .table) kind s list h
 
   -- check answers 0
-  pub history-check : checkOf (now .table) ≡ done
+  pub history-check : checkOf (reached .table) ≡ done
   history-check = check-done some small history-holds
 
 -- ---- each contract fixes its outcome: two that it allows are equal

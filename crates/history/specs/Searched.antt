@@ -24,7 +24,8 @@ use Rattle.newcomer.specs.Newcomer.{Newcomer, brought, brought-card}
 use Rattle.view.specs.Shaped.{Shaped, shaped-bytes}
 use Rattle.view.specs.Formed.{formed-view, used-within}
 use Rattle.search.specs.Search.{entered, cards, listing, refusalOf, searchOf}
-use Rattle.search.specs.Accepted.{accepted, cards-fit}
+use Rattle.search.specs.Tests.{accepted}
+use Rattle.search.specs.Listing.{cards-fit}
 use Rattle.search.specs.Laws.{accepted-is, comparedSlots}
 use Rattle.search.specs.Promises.{refusal-is, count-compared, compared-once, listed-once, listed-exactly, later-stay}
 use Rattle.soundness.specs.Soundness.{checkOf}

@@ -19,7 +19,7 @@ use Rattle.table.specs.Stands.{right-most}
 use Rattle.judge.specs.WellFormed.{WellFormed}
 use Rattle.survey.specs.Survey.{usedIn, kindOf, slotOfCard, lowestFree, largestTimestamp}
 use Rattle.survey.specs.Laws.{no-card-before, lowest-no-card}
-use Rattle.view.specs.Refusal.{otherKind}
+use Rattle.admission.specs.Query.{otherKind}
 use Rattle.distance.specs.Kind.{knownKind}
 use Rattle.refusals.specs.Limits.{knownArity, mostChildren, lastTimestamp, signatureLength}
 use Rattle.refusals.specs.Refusal.{firstOf, done}

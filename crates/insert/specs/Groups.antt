@@ -16,7 +16,7 @@ use Rattle.refusals.specs.Refusal.{Test, firstOf, done, ARGUMENT, KIND, TWICE, 
 use Rattle.refusals.specs.First.{first-append}
 use Rattle.refusals.specs.Limits.{lastTimestamp}
 use Rattle.admission.specs.Admission.{admissionTests}
-use Rattle.view.specs.Refusal.{otherKind}
+use Rattle.admission.specs.Query.{otherKind}
 use Rattle.insert.specs.Insert.{rightArguments, refusalOf}
 
 -- ---- the groups

@@ -1,6 +1,5 @@
 -- Insert: its outcome, and what it promises.
 pub mod Insert
 pub mod Groups
-pub mod Refusals
 pub mod Accepted
 pub mod Promises

@@ -1,5 +1,5 @@
--- The counting form of "well formed": what one pass over the records sees, and numbers compared at the end. No record is
--- looked for in its parent's child slots: that each stands there once follows from the numbers (Counting.antt).
+-- The counting form of "well formed": what one pass over the records sees, and numbers compared at the end. No record
+-- is looked for in its parent's child slots: that each stands there once follows from the numbers (Counting.antt).
 use Prim.Native.Nat.{ℕ, zero, suc, _+_, _<_}
 use mathlib.Core.Path.{_≡_}
 use mathlib.Core.Bool.{Bool, _&&_, not}

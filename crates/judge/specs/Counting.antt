@@ -1,7 +1,7 @@
--- The counting form says what the paper's clauses say, in a table of at most 65,535 slots, and its test gives the same
--- answer. Kinds that agree with the last one agree with all; timestamps that rise from child to child, and from the record
--- to its first child, keep a record from having one child twice; and then the numbers say that each stands once
--- (Standing.antt). Assumes nothing.
+-- The counting form says what the paper's clauses say, in a table of at most 65,535 slots, and its test gives the
+-- same answer. Kinds that agree with the last one agree with all; timestamps that rise from child to child, and from
+-- the record to its first child, keep a record from having one child twice; and then the numbers say that each stands
+-- once (Standing.antt). Assumes nothing.
 use Prim.Native.Nat.{ℕ, zero, suc, _+_, _≤_, _<_}
 use mathlib.Core.Path.{_≡_, refl, sym, ap, _∙_}
 use mathlib.Core.Bool.{Bool, true, false, false≢true}

@@ -1,7 +1,7 @@
 -- How often each slot stands among the child slots of all records. Let s stand f s times there. Where each child slot
--- within its count names a used record whose parent is this one, only the parent has s among its child slots, and the sum
--- of f over the slots is the sum of the child counts. So, where no record has s twice, that sum is the number of used
--- records less the roots exactly if f s is 1 for each of them. Assumes nothing.
+-- within its count names a used record whose parent is this one, only the parent has s among its child slots, and the
+-- sum of f over the slots is the sum of the child counts. So, where no record has s twice, that sum is the number of
+-- used records less the roots exactly if f s is 1 for each of them. Assumes nothing.
 use Prim.Native.Nat.{ℕ, zero, suc, _+_, _≤_, _<_}
 use mathlib.Core.Path.{_≡_, refl, sym, ap, _∙_}
 use mathlib.Core.Bool.{Bool, true, false, _&&_, not, false≢true}

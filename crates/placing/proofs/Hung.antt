@@ -22,9 +22,10 @@ use Rattle.tree.specs.Insert.Same.{path-in}
 use Rattle.view.specs.View.{viewOf}
 use Rattle.view.specs.Children.{children-at}
 use Rattle.newcomer.specs.Newcomer.{brought, brought-is, Newcomer, fresh, adopting}
-use Rattle.placing.specs.Place.{Placed, raisedAlong, hangingFrom, hanging}
-use Rattle.placing.specs.Place.Row.{Kept, Still, still-self, kept-adopting, along-still}
-use Rattle.placing.specs.Loop.Descent.{Descended, descent, descended}
+use Rattle.placing.specs.Place.{Placed, hangingFrom, hanging}
+use Rattle.newcomer.specs.Kept.{Kept, Still, still-self, kept-adopting}
+use Rattle.placing.specs.Place.Row.{along-still}
+use Rattle.descent.specs.Descent.{raisedAlong, Descended, descent, descended}
 use Rattle.table.specs.Stands.{Stands, stands-same, in-stands, whole-same}
 use Rattle.placing.specs.Hang.{Hangable, hostOf}
 
@@ -125,6 +126,11 @@ module _ {l : List ℕ} {kind arity s root depth : ℕ} (ok : Hangable l kind ar
 
     pub host-room : recordOf m on .count < mostChildren
     host-room = omega (arith, still on .count, ok .room, ap (λ (i : ℕ). at rows i .count) on-host)
+
+    -- the newcomer's slot stands still, where the host has its child
+    pub slot-still : {k : List ℕ} → Became m on (adopting s (recordOf m on)) k → Stands k s
+    slot-still {k} adopted =
+        stands-same m k (adopted .same-length) s (stands-same l m (over .same-length) s (ok .slot-stands))
 
     module _ {k j : List ℕ} (timestamp : ℕ) (adopted : Became m on (adopting s (recordOf m on)) k)
         (seated : Became k s (fresh (brought (recordOf k s)) timestamp on) j) where

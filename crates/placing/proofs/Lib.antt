@@ -1,4 +1,3 @@
 -- What the proofs of the functions cite.
-mod Descending
 mod Hung
 mod Placing

@@ -6,4 +6,3 @@ pub mod Hang
 pub mod Hangable
 pub mod Placeable
 pub mod Changed
-pub mod Loop

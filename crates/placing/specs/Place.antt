@@ -1,7 +1,7 @@
 -- "Insert": a newcomer placed in a slot of a row of records by the insert rule. Insert places one; delete places again,
 -- one at a time, those that stood below the deleted card.
 use Prim.Native.Nat.{ℕ, _+_}
-use mathlib.Core.List.{List, [], _∷_}
+use mathlib.Core.List.{List}
 use lib.Dec.{eqb}
 use lib.ListN.{length, set}
 use Rattle.places.specs.Choice.{pick}
@@ -11,7 +11,8 @@ use Rattle.survey.specs.Survey.{usedIn, rootOf, largestTimestamp}
 use Rattle.tree.specs.View.{distanceCount}
 use Rattle.tree.specs.Insert.{path, last}
 use Rattle.view.specs.View.{viewOf}
-use Rattle.newcomer.specs.Newcomer.{Newcomer, raised, adopting, fresh}
+use Rattle.newcomer.specs.Newcomer.{Newcomer, adopting, fresh}
+use Rattle.descent.specs.Descent.{raisedAlong}
 pub mod Agree
 pub mod Row
 pub mod Hanging
@@ -20,13 +21,6 @@ pub mod Settled
 pub mod Root
 pub mod Child
 pub mod Keeps
-
--- ---- the records on the way
-
--- 1. at each record visited
-unfoldable pub raisedAlong : (List ℕ → List ℕ → ℕ) → List ℕ → List ℕ → List Record → List Record
-raisedAlong d x [] rows = rows
-raisedAlong d x (a ∷ p) rows = raisedAlong d x p (set rows a (raised (d (at rows a .readings) x) (at rows a)))
 
 -- ---- the rule
 

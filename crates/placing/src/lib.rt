@@ -8,15 +8,13 @@ ghost use Rattle.placing.specs.Place.{placed};
 ghost use Rattle.newcomer.specs.Newcomer.{newcomer};
 ghost use Rattle.placing.specs.Hang.{Hangable, leaves, hungIn};
 ghost use Rattle.placing.specs.Placeable.{Placeable};
-use descend::descend;
+use descent::descend;
 use distance::Signature;
 use newcomer::adopt;
 use newcomer::name;
 use newcomer::seat;
 use survey::Findings;
 use table::NO_SLOT;
-
-mod descend;
 
 // The newcomer whose card, kind and signature stand in slot s. Returns the distances worked out.
 pub fn hang(

@@ -1,5 +1,6 @@
-// The library's doors: the five calls as C functions over lent bytes and numbers. include/plotvuga.h says what a C caller
-// needs to know. Each returns the paper's refusal number, 0 if it was done; counts go to where the caller points.
+// The library's doors: the five calls as C functions over lent bytes and numbers. include/plotvuga.h says what a C
+// caller needs to know. Each returns the paper's refusal number, 0 if it was done; counts go to where the caller
+// points.
 ghost use mathlib.Core.Path.{_≡_};
 ghost use Rattle.table.specs.Clear.{Cleared, clearOf};
 ghost use Rattle.insert.specs.Insert.{insertOf};
@@ -11,7 +12,8 @@ ghost use Rattle.soundness.specs.Soundness.{checkOf};
 
 #[no_mangle]
 pub extern "C" fn plotvuga_clear(table: &mut [u8]) -> u32
-    ensures { λ r. ⌜ _≡_ {A = Cleared} (record { refusal = r; table = now (table .exit) }) (clearOf (now (table .entry))) ⌝ }
+    ensures { λ r.
+        ⌜ _≡_ {A = Cleared} (record { refusal = r; table = now (table .exit) }) (clearOf (now (table .entry))) ⌝ }
 {
     table::clear(table) as u32
 }

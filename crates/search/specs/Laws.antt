@@ -25,9 +25,9 @@ use Rattle.tree.specs.Search.Finds.{listed-once, listed-iff}
 use Rattle.view.specs.View.{viewOf}
 use Rattle.refusals.specs.Refusal.{done}
 use Rattle.view.specs.Survey.{usedIn-usedCount}
-use Rattle.search.specs.Search.{outcome, noBound, entered, cards, distances, refusalOf, refused, searchOf}
-use Rattle.search.specs.Walk.{listingOf}
-use Rattle.search.specs.Accepted.{entered-some, distances-none, distances-some, cards-none}
+use Rattle.search.specs.Search.{outcome, noBound, entered, cards, distances}
+use Rattle.search.specs.Search.{refusalOf, refused, listingOf, searchOf}
+use Rattle.search.specs.Listing.{entered-some, distances-none, distances-some, cards-none}
 
 -- ---- accepted or refused
 

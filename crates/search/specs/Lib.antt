@@ -1,7 +1,6 @@
--- Range search: its outcome, what it promises, and what its code's contracts speak of.
+-- Range search: its outcome, what it promises, and the laws that its code's proofs cite.
 pub mod Search
 pub mod Promises
 pub mod Laws
-pub mod Accepted
 pub mod Tests
-pub mod Walk
+pub mod Listing

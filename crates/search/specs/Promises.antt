@@ -23,7 +23,8 @@ use Rattle.view.specs.Sound.{SoundTable}
 use Rattle.view.specs.Survey.{usedIn-seen}
 use Rattle.search.specs.Search.{outcome, cards, refusalOf, listing, searchOf}
 use Rattle.view.specs.Readable.{readable-seen, readable-shaped}
-use Rattle.search.specs.Accepted.{accepted, unbounded, cards-fit, distances-fit}
+use Rattle.search.specs.Tests.{accepted}
+use Rattle.search.specs.Listing.{unbounded, cards-fit, distances-fit}
 use Rattle.search.specs.Laws.{accepted-is, refused-is, comparedSlots, distances-compared, compared-distinct}
 use Rattle.search.specs.Laws.{distances-narrower, cards-distinct, cards-exactly, laid}
 
@@ -31,7 +32,8 @@ use Rattle.search.specs.Laws.{distances-narrower, cards-distinct, cards-
 module _ (l : List ℕ) (kind : ℕ) (s : List ℕ) where
   -- ---- for every input
 
-  -- a search is accepted exactly if no test refuses it: its refusal is the number of the first test that holds, 0 if none does
+  -- a search is accepted exactly if no test refuses it: its refusal is the number of the first test that holds, 0 if
+  -- none does
   pub refusal-is : (r : ℕ) (list : List ℕ) → searchOf l kind s r list .refusal ≡ refusalOf l kind s (length list)
   unfolding listing
   refusal-is r list = elim (ℕ-discrete (refusalOf l kind s (length list)) done) [
@@ -105,7 +107,8 @@ module _ (l : List ℕ) (kind : ℕ) (s : List ℕ) where
 
     -- "later entries stay"
     pub later-stay :
-        drop (searchOf l kind s r list .found) (searchOf l kind s r list .list) ≡ drop (searchOf l kind s r list .found) list
+        drop (searchOf l kind s r list .found) (searchOf l kind s r list .list)
+        ≡ drop (searchOf l kind s r list .found) list
     unfolding listing
     later-stay =
         rw (accepted-is l kind s r list e, laid found list fits) (drop-append-seam found (drop (length found) list))

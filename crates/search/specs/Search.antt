@@ -1,22 +1,22 @@
 -- "Range search (001, Algorithm 2)": the outcome of the call, for every input.
 use Prim.Native.Nat.{ℕ, _^_}
-use mathlib.Core.Bool.{_&&_, not}
-use mathlib.Core.List.{List, [], _∷_}
+use mathlib.Core.Bool.{not}
+use mathlib.Core.List.{List, [], _∷_, _++_}
 use lib.Dec.{eqb, ltb}
 use lib.ListN.{length}
 use lib.Seq.{sets}
 use Rattle.places.specs.Choice.{pick}
 use Rattle.distance.specs.Signature.{readingsAt}
-use Rattle.distance.specs.Kind.{apart, knownKind}
+use Rattle.distance.specs.Kind.{apart}
 use Rattle.table.specs.Record.{Record, recordOf}
-use Rattle.table.specs.Table.{rightSize, recordsIn}
-use Rattle.judge.specs.WellFormed.{wellFormed}
+use Rattle.table.specs.Table.{recordsIn}
 use Rattle.survey.specs.Survey.{usedIn, rootOf}
 use Rattle.tree.specs.View.{distanceCount}
 use Rattle.tree.specs.Search.{visit, listed}
 use Rattle.view.specs.View.{viewOf}
-use Rattle.view.specs.Refusal.{otherKind}
-use Rattle.refusals.specs.Refusal.{SIZE, TABLE, ARGUMENT, KIND, SHORT, firstOf, done}
+use Rattle.admission.specs.Admission.{admissionTests}
+use Rattle.admission.specs.Query.{knownQuery, otherKind}
+use Rattle.refusals.specs.Refusal.{ARGUMENT, KIND, SHORT, firstOf, done}
 
 -- what a search returns, and the list as it leaves it
 pub record Outcome : Type 0 where
@@ -53,12 +53,11 @@ module _ (n : ℕ) (R : ℕ → Record) (kind : ℕ) (q : List ℕ) (r : ℕ) wh
 unfoldable pub refusalOf : List ℕ → ℕ → List ℕ → ℕ → ℕ
 refusalOf l kind s m =
     firstOf
-    ((not (rightSize (length l)), SIZE)
-    ∷ (not (wellFormed (recordsIn l) (recordOf l)), TABLE)
-    ∷ (not (knownKind kind && eqb (length s) 32), ARGUMENT)
+    (admissionTests l
+    ++ ((not (knownQuery kind s), ARGUMENT)
     ∷ (otherKind (recordsIn l) (recordOf l) kind, KIND)
     ∷ (ltb m (usedIn (recordsIn l) (recordOf l)), SHORT)
-    ∷ [])
+    ∷ []))
 
 -- "A refusal returns zero counts and touches nothing lent"
 unfoldable pub refused : ℕ → List ℕ → Outcome
@@ -67,6 +66,11 @@ refused k list = outcome k 0 0 list
 -- "Cards are listed in walk order from the list's start; later entries stay"
 unfoldable pub listing : ℕ → List ℕ → List ℕ → Outcome
 listing count cs list = outcome done count (length cs) (sets list 0 cs)
+
+-- what an accepted search leaves, of the table l and the query's readings q
+abbrev pub listingOf : List ℕ → ℕ → List ℕ → ℕ → List ℕ → Outcome
+listingOf l kind q r list =
+    listing (distances (recordsIn l) (recordOf l) kind q r) (cards (recordsIn l) (recordOf l) kind q r) list
 
 -- table l, kind, signature bytes s, radius r and a lent list of cards
 unfoldable pub searchOf : List ℕ → ℕ → List ℕ → ℕ → List ℕ → Outcome

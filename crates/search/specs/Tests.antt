@@ -1,79 +1,97 @@
--- The refusal tests in the two groups that the code takes: those before the table is surveyed, and those after. Assumes
--- nothing.
-use Prim.Native.Nat.{ℕ}
-use mathlib.Core.Path.{_≡_, refl, _∙_}
-use mathlib.Core.Bool.{Bool, true, false, _&&_, not}
+-- The refusal by its tests, one after the other as the code takes them, and what they have shown of a call that passes
+-- them all. Assumes nothing.
+use Prim.Native.Nat.{ℕ, _≤_, _<_}
+use mathlib.Core.Path.{_≡_, refl, sym, _∙_}
+use mathlib.Core.Bool.{true, false, _||_, not}
 use mathlib.Core.List.{List, [], _∷_}
+use native.Mathlib.Decide.{ℕ-discrete}
 use lib.Dec.{eqb, ltb}
 use lib.ListN.{length}
-use native.Mathlib.Omega.{arith}
-use borrow.Author.Tests.{eq-eqb, ne-eqb, not-false}
-use Rattle.places.specs.Choice.{pick}
+use borrow.Author.Tests.{eq-eqb, ne-eqb, lt-ltb, le-ltb, ltb-false, not-false}
+use Rattle.places.specs.Choice.{pick, or-left, or-right}
 use Rattle.table.specs.Record.{recordOf}
-use Rattle.table.specs.Table.{rightSize, recordsIn}
-use Rattle.judge.specs.WellFormed.{wellFormed}
+use Rattle.table.specs.Table.{recordsIn}
 use Rattle.survey.specs.Survey.{usedIn, kindOf}
-use Rattle.view.specs.Refusal.{otherKind}
-use Rattle.distance.specs.Kind.{knownKind}
-use Rattle.refusals.specs.Refusal.{SIZE, TABLE, ARGUMENT, KIND, SHORT, firstOf, done}
+use Rattle.refusals.specs.Refusal.{Test, ARGUMENT, KIND, SHORT, firstOf, done}
+use Rattle.refusals.specs.First.{first-append, first-none}
+use Rattle.refusals.specs.Limits.{signatureLength}
+use Rattle.admission.specs.Admission.{Readable, admissionTests, admitted-readable}
+use Rattle.admission.specs.Query.{knownQuery, otherKind, query-length, query-kind}
 use Rattle.search.specs.Search.{refusalOf}
-use Rattle.search.specs.Accepted.{none-first}
 
--- size, table and arguments
-unfoldable pub refusalBefore : List ℕ → ℕ → List ℕ → ℕ
-refusalBefore l kind s =
-    firstOf
-    ((not (rightSize (length l)), SIZE)
-    ∷ (not (wellFormed (recordsIn l) (recordOf l)), TABLE)
-    ∷ (not (knownKind kind && eqb (length s) 32), ARGUMENT)
-    ∷ [])
+-- what a search asks of a table that is admitted
+abbrev pub ownTests : List ℕ → ℕ → List ℕ → ℕ → List Test
+ownTests l kind s m =
+    (not (knownQuery kind s), ARGUMENT)
+    ∷ (otherKind (recordsIn l) (recordOf l) kind, KIND)
+    ∷ (ltb m (usedIn (recordsIn l) (recordOf l)), SHORT)
+    ∷ []
 
--- kind and room: of a table with so many used records, of the kind stored, and a list of so many entries
-abbrev pub refusalAfterOf : ℕ → ℕ → ℕ → ℕ → ℕ
-refusalAfterOf kind used stored room =
-    firstOf ((ltb 0 used && not (eqb stored kind), KIND) ∷ (ltb room used, SHORT) ∷ [])
+-- what an accepted call's tests have shown, of the table l, the kind, the signature's bytes s and a list of m entries
+pub record Accepted (l : List ℕ) (kind : ℕ) (s : List ℕ) (m : ℕ) : Type 0 where
+  pub readable : Readable l
+  pub bytes : length s ≡ signatureLength
+  pub of-kind : 1 ≤ usedIn (recordsIn l) (recordOf l) → kindOf (recordsIn l) (recordOf l) ≡ kind
+  pub room : usedIn (recordsIn l) (recordOf l) ≤ m
 
-unfoldable pub refusalAfter : List ℕ → ℕ → ℕ → ℕ
-refusalAfter l kind m = refusalAfterOf kind (usedIn (recordsIn l) (recordOf l)) (kindOf (recordsIn l) (recordOf l)) m
+module _ (l : List ℕ) (kind : ℕ) (s : List ℕ) (m : ℕ) where
+  refusal-split :
+      refusalOf l kind s m
+      ≡ pick (eqb (firstOf (admissionTests l)) done) (firstOf (ownTests l kind s m)) (firstOf (admissionTests l))
+  unfolding refusalOf
+  refusal-split = first-append (admissionTests l) (ownTests l kind s m) refl
 
--- ---- one after the other they are all tests
+  -- ---- the first test that holds
 
-chain :
-    (a b c : Bool) (x : ℕ)
-    → pick a SIZE (pick b TABLE (pick c ARGUMENT x))
-    ≡ pick
-    (eqb (firstOf ((a, SIZE) ∷ (b, TABLE) ∷ (c, ARGUMENT) ∷ [])) done)
-    x
-    (firstOf ((a, SIZE) ∷ (b, TABLE) ∷ (c, ARGUMENT) ∷ []))
-chain true b c x = refl
-chain false true c x = refl
-chain false false true x = refl
-chain false false false x = refl
+  pub refusal-lent : (k : ℕ) → k ≡ firstOf (admissionTests l) → (k ≡ done → ⊥) → k ≡ refusalOf l kind s m
+  refusal-lent k e n = e ∙ sym (refusal-split ∙ rw (ne-eqb (firstOf (admissionTests l)) done (λ z. n (e ∙ z))))
 
-pub refusal-split :
-    (l : List ℕ) (kind : ℕ) (s : List ℕ) (m : ℕ)
-    → refusalOf l kind s m ≡ pick (eqb (refusalBefore l kind s) done) (refusalAfter l kind m) (refusalBefore l kind s)
-unfolding refusalOf refusalBefore refusalAfter otherKind
-refusal-split l kind s m =
-    chain
-    (not (rightSize (length l)))
-    (not (wellFormed (recordsIn l) (recordOf l)))
-    (not (knownKind kind && eqb (length s) 32))
-    (refusalAfter l kind m)
+  module _ (admitted : firstOf (admissionTests l) ≡ done) where
+    refusal-own : refusalOf l kind s m ≡ firstOf (ownTests l kind s m)
+    refusal-own = refusal-split ∙ rw (eq-eqb (firstOf (admissionTests l)) done admitted)
 
-pub refusal-before :
-    (l : List ℕ) (kind : ℕ) (s : List ℕ) (m : ℕ)
-    → (refusalBefore l kind s ≡ done → ⊥)
-    → refusalOf l kind s m ≡ refusalBefore l kind s
-refusal-before l kind s m n = refusal-split l kind s m ∙ rw (ne-eqb _ _ n)
+    pub refusal-argument : knownQuery kind s ≡ false → ARGUMENT ≡ refusalOf l kind s m
+    refusal-argument e = sym (refusal-own ∙ rw e)
 
-pub refusal-after :
-    (l : List ℕ) (kind : ℕ) (s : List ℕ) (m : ℕ)
-    → refusalBefore l kind s ≡ done
-    → refusalOf l kind s m ≡ refusalAfter l kind m
-refusal-after l kind s m e = refusal-split l kind s m ∙ rw (eq-eqb _ _ e)
+    pub refusal-kind :
+        knownQuery kind s ≡ true → otherKind (recordsIn l) (recordOf l) kind ≡ true → KIND ≡ refusalOf l kind s m
+    refusal-kind e f = sym (refusal-own ∙ rw (e, f))
 
--- the first group shows that the table holds whole records
-pub before-size : (l : List ℕ) (kind : ℕ) (s : List ℕ) → refusalBefore l kind s ≡ done → rightSize (length l) ≡ true
-unfolding refusalBefore
-before-size l kind s e = not-false _ (none-first (not (rightSize (length l))) SIZE _ (omega arith) e .0)
+    pub refusal-short :
+        knownQuery kind s ≡ true
+        → otherKind (recordsIn l) (recordOf l) kind ≡ false
+        → m < usedIn (recordsIn l) (recordOf l)
+        → SHORT ≡ refusalOf l kind s m
+    refusal-short e f h = sym (refusal-own ∙ rw (e, f, lt-ltb _ _ h))
+
+    pub refusal-none :
+        knownQuery kind s ≡ true
+        → otherKind (recordsIn l) (recordOf l) kind ≡ false
+        → usedIn (recordsIn l) (recordOf l) ≤ m
+        → done ≡ refusalOf l kind s m
+    refusal-none e f h = sym (refusal-own ∙ rw (e, f, le-ltb _ _ h))
+
+  -- ---- none holds
+
+  pub refusal-admits : refusalOf l kind s m ≡ done → firstOf (admissionTests l) ≡ done
+  refusal-admits e = elim (ℕ-discrete (firstOf (admissionTests l)) done) [
+    | yes z ↦ z
+    | no n ↦ absurd (n (refusal-lent (firstOf (admissionTests l)) refl n ∙ e))
+  ]
+
+  pub accepted : refusalOf l kind s m ≡ done → Accepted l kind s m
+  accepted e =
+      let argument = not (knownQuery kind s) in
+      let other = otherKind (recordsIn l) (recordOf l) kind in
+      let short = ltb m (usedIn (recordsIn l) (recordOf l)) in
+      let admitted = refusal-admits e in
+      let none = first-none (ownTests l kind s m) refl (sym (refusal-own admitted) ∙ e) in
+      let later = or-right argument (other || (short || false)) none in
+      record {
+        readable = admitted-readable l admitted;
+        bytes = query-length kind s (not-false (knownQuery kind s) (or-left argument (other || (short || false)) none));
+        of-kind = query-kind (recordsIn l) (recordOf l) kind (or-left other (short || false) later);
+        room =
+            ltb-false m (usedIn (recordsIn l) (recordOf l))
+            (or-left short false (or-right other (short || false) later));
+      }

@@ -1,26 +1,22 @@
 // Range search (001, Algorithm 2): the call, with its refusals.
 ghost use mathlib.Core.Path.{_≡_};
-ghost use Prim.Native.Nat.{_^_, _≤_, _<_};
+ghost use mathlib.Core.List.{List};
+ghost use Prim.Native.Nat.{ℕ, _^_, _≤_, _<_};
 ghost use lib.ListN.{length};
 ghost use Rattle.distance.specs.Signature.{Fit};
 ghost use Rattle.table.specs.Record.{recordOf};
 ghost use Rattle.table.specs.Table.{recordsIn};
 ghost use Rattle.survey.specs.Survey.{usedIn, rootOf};
-ghost use Rattle.search.specs.Search.{outcome, searchOf};
-ghost use Rattle.search.specs.Tests.{refusalBefore, refusalAfterOf};
-ghost use Rattle.search.specs.Walk.{listingOf};
-ghost use Rattle.admission.specs.Admission.{Readable};
-
-mod walk;
-
+ghost use Rattle.admission.specs.Admission.{Admits, Readable};
+ghost use Rattle.search.specs.Search.{outcome, refusalOf, listingOf, searchOf};
+use admission::Admitted;
+use admission::query::known_query;
+use admission::query::other_kind;
 use distance::Signature;
 use refusals::ARGUMENT;
 use refusals::DONE;
 use refusals::KIND;
 use refusals::SHORT;
-use refusals::SIZE;
-use refusals::TABLE;
-use table::RECORD;
 use walk::Reached;
 
 // "No bound on time": above every timestamp that four bytes hold.
@@ -33,30 +29,22 @@ pub struct Found {
     pub found: u32,
 }
 
-// The first refusal among size, table and arguments; 0 if there is none.
-fn refusal_before(t: &[u8], kind: u8, signature: &[u8]) -> u8
-    ensures { λ r. ⌜ r ≡ refusalBefore (now (t .entry)) kind (now (signature .entry)) ⌝ }
+// The first refusal of a search, 0 if there is none: by what was learnt of its table, by what it is told, and by the
+// room in its list.
+fn refusal_of(lent: Admitted, kind: u8, signature: &[u8], room: usize) -> u8
+    ensures { λ r. ⌜ ((l : List ℕ) → Admits l lent → r ≡ refusalOf l kind (now (signature .entry)) room) ⌝ }
 {
-    if !table::right_size(t) {
-        return SIZE;
+    if lent.refusal != DONE {
+        return lent.refusal;
     }
-    if !admission::well_formed(t, t.len() / RECORD) {
-        return TABLE;
-    }
-    if !(((kind == 1) | (kind == 2)) & (signature.len() == 32)) {
+    if !known_query(kind, signature) {
         return ARGUMENT;
     }
-    DONE
-}
-
-// The first refusal of kind and room, of a table with `used` records of the kind `stored`; 0 if there is none.
-fn refusal_after(kind: u8, used: usize, stored: u8, room: usize) -> u8
-    ensures { λ r. ⌜ r ≡ refusalAfterOf kind used stored room ⌝ }
-{
-    if (0 < used) & (stored != kind) {
+    let found = lent.found;
+    if other_kind(found, kind) {
         return KIND;
     }
-    if room < used {
+    if room < found.used {
         return SHORT;
     }
     DONE
@@ -113,15 +101,12 @@ pub fn search(t: &[u8], kind: u8, signature: &[u8], radius: u32, list: &mut [u32
         ⌜ outcome (r .refusal) (r .count) (r .found) (now (list .exit))
         ≡ searchOf (now (t .entry)) kind (now (signature .entry)) radius (now (list .entry)) ⌝ }
 {
-    let before = refusal_before(t, kind, signature);
-    if before != DONE {
-        return refused(before);
-    }
-    let about = survey::survey(t, t.len() / RECORD);
-    let after = refusal_after(kind, about.used, about.kind, list.len());
-    if after != DONE {
-        return refused(after);
+    let lent = admission::admit(t);
+    let refusal = refusal_of(lent, kind, signature, list.len());
+    if refusal != DONE {
+        return refused(refusal);
     }
     let q = distance::signature_at(signature, 0);
-    accepted(t, kind, q, radius as u64, list, about.used, about.root)
+    let found = lent.found;
+    accepted(t, kind, q, radius as u64, list, found.used, found.root)
 }

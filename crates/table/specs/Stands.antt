@@ -191,7 +191,8 @@ walkable-same {l} {m} long counts slots w =
 
 -- ---- for `search`: what stands, from what stood or stands besides
 
-pub ruleset standing = (stands-below, stands-same, stand-to-same, stands-in, are-stand, stand-all, whole-same, are-same)
+pub ruleset stands-rules =
+    (stands-below, stands-same, stand-to-same, stands-in, are-stand, stand-all, whole-same, are-same)
 
 -- ---- where the bytes are, for the laws of the table's own bytes
 

@@ -1,4 +1,5 @@
--- `bench::add_cards` is safe: each card takes at most 21 bytes of the line. The loop's invariant says so of the first i. Assumes nothing.
+-- `bench::add_cards` is safe: each card takes at most 21 bytes of the line. The loop's invariant says so of the first
+-- i. Assumes nothing.
 use Prim.Native.Nat.{_≤_, _-_, _+_, _*_}
 use mathlib.Core.Path.{_≡_}
 use lib.ListN.{length}

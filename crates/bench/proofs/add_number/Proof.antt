@@ -1,4 +1,5 @@
--- `bench::add_number` is safe: a number has at most 20 digits. The loop's invariant: i of the k digits stand in the line. Assumes nothing.
+-- `bench::add_number` is safe: a number has at most 20 digits. The loop's invariant: i of the k digits stand in the
+-- line. Assumes nothing.
 use Prim.Native.Nat.{ℕ, _≤_, _<_, _-_, _^_}
 use native.Mathlib.Nat.{pow-le-pow-right}
 use native.Mathlib.Decide.{decLe}
@@ -29,7 +30,10 @@ decimal-requires : tie.Need-decimal-requires Inv-loop μ-loop
 decimal-requires c κs = search needs
 
 loop-holds : tie.Need-loop-holds Inv-loop μ-loop
-loop-holds c = (omega arith, few-digits (c .before .before .before .args .n) (c .decimal .result) (c .before .before .before .fits .n .fits) (c .decimal .ensures .1 .0 .2), refl)
+loop-holds c =
+    let start = c .before .before .before in
+    let few = few-digits (start .args .n) (c .decimal .result) (start .fits .n .fits) (c .decimal .ensures .1 .0 .2) in
+    (omega arith, few, refl)
 
 array-read-line : tie.Need-array-read-line Inv-loop μ-loop
 array-read-line c = search needs

@@ -1,5 +1,5 @@
--- `bench::main` is safe and ends: the measure is how many command numbers are left. Nothing has to hold from turn to turn.
--- Assumes nothing.
+-- `bench::main` is safe and ends: the measure is how many command numbers are left. Nothing has to hold from turn to
+-- turn. Assumes nothing.
 use Prim.Native.Nat.{_-_, _^_}
 use borrow.Author.Needs.{needs}
 use Rattle.bench.proofs.main.Statement.{statement}

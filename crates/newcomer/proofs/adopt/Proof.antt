@@ -7,6 +7,7 @@ use borrow.Author.Needs.{needs}
 use Rattle.refusals.specs.Limits.{mostChildren}
 use Rattle.table.specs.Record.{Record, recordOf}
 use Rattle.table.specs.Put.{withSlot, withCount}
+use Rattle.table.specs.Stands.{stands-same}
 use Rattle.table.specs.Laws.{Became, put-slot, put-count, became-by}
 use Rattle.newcomer.proofs.Writes.{wrote-then, adopting-is}
 use Rattle.newcomer.proofs.adopt.Statement.{statement}
@@ -63,7 +64,10 @@ add-put-count : tie.Need-add-put-count
 add-put-count c = search needs
 
 put-count-requires : tie.Need-put-count-requires
-put-count-requires c κs = search needs
+put-count-requires c κs =
+    let first = c .before .before .before in
+    let b = start (counted first) in
+    stands-same (b .args .t .now) (first .put-slot .last .0) (child-put first .same-length) (b .args .a) (b .pre .0)
 
 same-length : tie.Need-same-length
 same-length c = search needs

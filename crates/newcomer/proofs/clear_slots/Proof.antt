@@ -8,6 +8,7 @@ use lib.ListN.{length}
 use Rattle.table.specs.Record.{Record, recordOf, noSlot}
 use Rattle.table.specs.Same.{slots-length}
 use Rattle.table.specs.Put.{withSlot}
+use Rattle.table.specs.Stands.{stands-same}
 use Rattle.table.specs.Laws.{Became, put-slot, became-by, became-none}
 use Rattle.newcomer.proofs.Writes.{wrote-then, withSlots, cleared, cleared-none, cleared-more, cleared-all}
 use Rattle.newcomer.proofs.clear_slots.Statement.{statement}
@@ -40,7 +41,11 @@ loop-holds c =
     (omega arith, refl, became-by (became-none (b .args .t .now) (b .args .s) (b .pre)) none refl)
 
 put-slot-requires : tie.Need-put-slot-requires Inv-loop μ-loop
-put-slot-requires c κs = search needs
+put-slot-requires c κs =
+    let head = c .before .before in
+    let b = start head in
+    let stands = stands-same (b .args .t .now) (head .loop .t) (head .loop .inv .1) (b .args .s) (b .pre) in
+    (stands, c .before .loop-test .taken)
 
 add-i : tie.Need-add-i Inv-loop μ-loop
 add-i c = search needs

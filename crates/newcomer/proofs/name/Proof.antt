@@ -4,6 +4,7 @@ use native.Mathlib.Omega.{arith}
 use borrow.Author.Needs.{needs}
 use Rattle.table.specs.Record.{Record, recordOf}
 use Rattle.table.specs.Put.{withCard, withKind, withReadings}
+use Rattle.table.specs.Stands.{stands-same}
 use Rattle.table.specs.Laws.{Became, put-card, put-kind, put-signature, became-by}
 use Rattle.newcomer.proofs.Writes.{wrote-then}
 use Rattle.newcomer.proofs.name.Statement.{statement}
@@ -53,10 +54,16 @@ put-card-requires : tie.Need-put-card-requires
 put-card-requires c κs = search needs
 
 put-kind-requires : tie.Need-put-kind-requires
-put-kind-requires c κs = search needs
+put-kind-requires c κs =
+    let first = c .before .before .before in
+    let b = start first in
+    stands-same (b .args .t .now) (first .put-card .last .0) (card-put first .same-length) (b .args .s) (b .pre .0)
 
 put-signature-requires : tie.Need-put-signature-requires
-put-signature-requires c κs = search needs
+put-signature-requires c κs =
+    let second = c .before .before .before in
+    let b = start (carded second) in
+    stands-same (b .args .t .now) (second .put-kind .last .0) (kind-put second .same-length) (b .args .s) (b .pre .0)
 
 same-length : tie.Need-same-length
 same-length c = search needs

@@ -5,6 +5,7 @@ use native.Mathlib.Omega.{arith}
 use borrow.Author.Needs.{needs}
 use Rattle.table.specs.Record.{Record, recordOf}
 use Rattle.table.specs.Put.{withTimestamp, withRadius, withParent, withCount}
+use Rattle.table.specs.Stands.{stands-same}
 use Rattle.table.specs.Laws.{Became, put-timestamp, put-radius, put-parent, put-count, became-by, then-with}
 use Rattle.newcomer.specs.Newcomer.{fresh, slotless}
 use Rattle.newcomer.proofs.Writes.{wrote-then}
@@ -83,16 +84,28 @@ put-timestamp-requires : tie.Need-put-timestamp-requires
 put-timestamp-requires c κs = search needs
 
 put-radius-requires : tie.Need-put-radius-requires
-put-radius-requires c κs = search needs
+put-radius-requires c κs =
+    let last = c .before .before .before in
+    let b = start last in
+    stands-same (b .args .t .now) (last .put-timestamp .last .0) (timestamp-put last .same-length) (b .args .s) (b .pre)
 
 put-parent-requires : tie.Need-put-parent-requires
-put-parent-requires c κs = search needs
+put-parent-requires c κs =
+    let last = c .before .before .before in
+    let b = start (timed last) in
+    stands-same (b .args .t .now) (last .put-radius .last .0) (radius-put last .same-length) (b .args .s) (b .pre)
 
 put-count-requires : tie.Need-put-count-requires
-put-count-requires c κs = search needs
+put-count-requires c κs =
+    let last = c .before .before .before in
+    let b = start (timed (levelled last)) in
+    stands-same (b .args .t .now) (last .put-parent .last .0) (parent-put last .same-length) (b .args .s) (b .pre)
 
 clear-slots-requires : tie.Need-clear-slots-requires
-clear-slots-requires c κs = search needs
+clear-slots-requires c κs =
+    let last = c .before .before .before in
+    let b = start (timed (levelled (hung last))) in
+    stands-same (b .args .t .now) (last .put-count .last .0) (count-put last .same-length) (b .args .s) (b .pre)
 
 same-length : tie.Need-same-length
 same-length c = search needs

@@ -4,7 +4,7 @@ use native.Mathlib.Omega.{arith}
 use borrow.Author.Needs.{needs}
 use Rattle.number.specs.Frame.{Bytes}
 use Rattle.table.specs.RoundTrip.{record-fits}
-use Rattle.placing.proofs.Hung.{Walked, walk-over, slot-few, host-few, host-stands, host-room, hung}
+use Rattle.placing.proofs.Hung.{Walked, walk-over, slot-few, slot-still, host-few, host-stands, host-room, hung}
 use Rattle.placing.proofs.hang.Statement.{statement}
 use Rattle.placing.proofs.hang.Tie as tie
 
@@ -58,7 +58,10 @@ cast-seat c =
     omega (arith, host-few (start (read w) .pre) (over w))
 
 seat-requires : tie.Need-seat-requires
-seat-requires c κs = search needs
+seat-requires c κs =
+    let host = adopted c in
+    let w = walked host in
+    slot-still (start (read w) .pre) (over w) (host .adopt .ensures)
 
 same-length : tie.Need-same-length
 same-length c = search needs

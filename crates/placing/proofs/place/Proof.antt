@@ -1,7 +1,7 @@
 -- `placing::place` meets its contract: the card is written into its slot, and then the record becomes the root or is
 -- hung. Assumes nothing.
 use borrow.Author.Needs.{needs}
-use Rattle.placing.proofs.Placing.{named-hangable, placed-first, placed-later}
+use Rattle.placing.proofs.Placing.{slot-stands, named-stands, named-hangable, placed-first, placed-later}
 use Rattle.placing.proofs.place.Statement.{statement}
 use Rattle.placing.proofs.place.Tie as tie
 
@@ -19,10 +19,14 @@ add-timestamp : tie.Need-add-timestamp
 add-timestamp c = search needs
 
 name-requires : tie.Need-name-requires
-name-requires c κs = search needs
+name-requires c κs =
+    let ok = c .before .before .before .pre in
+    (slot-stands ok, ok .ready .sixteen, ok .fit)
 
 seat-requires : tie.Need-seat-requires
-seat-requires c κs = search needs
+seat-requires c κs =
+    let n = named (c .before .before) in
+    named-stands (start n .pre) (n .name .ensures)
 
 hang-requires : tie.Need-hang-requires
 hang-requires c κs =

@@ -18,7 +18,8 @@ use Rattle.tree.specs.Insert.Path.{attach-∈}
 use Rattle.tree.specs.Insert.Same.{path-same, path-in, count-same}
 use Rattle.view.specs.View.{viewOf}
 use Rattle.placing.specs.Place.Row.{along-length}
-use Rattle.placing.specs.Place.{raisedAlong, hanging, hangingFrom}
+use Rattle.descent.specs.Descent.{raisedAlong}
+use Rattle.placing.specs.Place.{hanging, hangingFrom}
 use Rattle.newcomer.specs.Newcomer.{Newcomer, raised, adopting, fresh}
 
 -- the rows are of one length, and agree in every slot but those that wait
@@ -83,7 +84,7 @@ module _ (d : List ℕ → List ℕ → ℕ) (arity s : ℕ) (x : Newcomer) (t d
         (λ a n. ap (λ (r : Record). r .readings) (h .same a n))
         depth root (u .root-stays)
 
-    stays : (y : ℕ) → y ∈ path d (viewOf (at D)) (x .readings) arity depth root → waits y → ⊥
+    pub stays : (y : ℕ) → y ∈ path d (viewOf (at D)) (x .readings) arity depth root → waits y → ⊥
     stays y i =
         path-in d (viewOf (at D)) (viewOf (at C)) (x .readings) arity (λ a. waits a → ⊥) (u .children-stay)
         (λ a n. ap children (h .same a n))

@@ -26,7 +26,8 @@ use Rattle.view.specs.Survey.{usedIn-usedCount, rootOf-is}
 use Rattle.view.specs.Formed.{count-fits, used-within, Fields, formed-view, formed-table}
 use Rattle.placing.specs.Place.{hangingFrom}
 use Rattle.newcomer.specs.Newcomer.{Newcomer, fresh, adopting}
-use Rattle.placing.specs.Place.Row.{Kept, Still, along-other}
+use Rattle.newcomer.specs.Kept.{Kept, Still}
+use Rattle.placing.specs.Place.Row.{along-other}
 use Rattle.placing.specs.Place.Hanging.{high, after, after-length, high-still, hanging-inserted}
 use Rattle.placing.specs.Place.Hanging.{after-new, after-on, after-other, after-kept}
 use Rattle.placing.specs.Place.Room.{attach-room}

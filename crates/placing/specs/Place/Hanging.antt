@@ -12,9 +12,10 @@ use Rattle.table.specs.Table.{at}
 use Rattle.tree.specs.Slots.{_∈_}
 use Rattle.tree.specs.Insert.{Inserted}
 use Rattle.view.specs.View.{viewOf}
-use Rattle.placing.specs.Place.{raisedAlong, hangingFrom}
+use Rattle.descent.specs.Descent.{raisedAlong}
+use Rattle.placing.specs.Place.{hangingFrom}
 use Rattle.newcomer.specs.Newcomer.{Newcomer, fresh, adopting}
-use Rattle.placing.specs.Place.Row.{Kept, Still, still-self, kept-adopting, adopting-children}
+use Rattle.newcomer.specs.Kept.{Kept, Still, still-self, kept-adopting, adopting-children}
 use Rattle.placing.specs.Place.Row.{along-length, along-still, along-other, along-radius}
 
 module _ (d : List ℕ → List ℕ → ℕ) (arity s : ℕ) (x : Newcomer) (rows : List Record) (t on : ℕ) (p : List ℕ) where

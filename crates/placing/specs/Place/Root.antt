@@ -19,7 +19,7 @@ use Rattle.view.specs.Shaped.{Shaped}
 use Rattle.view.specs.Formed.{none-used, formed-table}
 use Rattle.placing.specs.Place.{asRoot}
 use Rattle.newcomer.specs.Newcomer.{Newcomer, fresh}
-use Rattle.placing.specs.Place.Row.{kept-self}
+use Rattle.newcomer.specs.Kept.{kept-self}
 use Rattle.placing.specs.Place.Settled.{Ready, Settled}
 
 -- the newcomer's record has every field as the paper's table has it

@@ -1,75 +1,18 @@
--- What a newcomer's placing does to each record of the row: the radii along the walk are raised, the host has one child
--- more, and the newcomer's record stands in its slot; all else is as it was. Assumes nothing.
+-- What the radii raised along a walk make of each record of the row: a record visited covers the newcomer, and all else
+-- is as it was. Assumes nothing.
 use Prim.Native.Nat.{ℕ, suc, _<_, max}
 use mathlib.Core.Path.{_≡_, refl, sym, ap, _∙_}
-use mathlib.Core.List.{List, [], _∷_, _++_, List·Memᴰ·head as first, List·Memᴰ·tail as later, List·Memᴰ·not-nil}
+use mathlib.Core.List.{List, [], _∷_, List·Memᴰ·head as first, List·Memᴰ·tail as later, List·Memᴰ·not-nil}
 use native.Mathlib.Omega.{arith}
 use native.Mathlib.Decide.{ℕ-discrete, decLe}
-use native.Mathlib.Numerals.{add-one}
 use lib.ListN.{length, set, length-set}
-use lib.Seq.{getD-set-same, getD-set-other, set-out, take-suc-set}
-use Rattle.table.specs.Record.{Record, free, children}
+use lib.Seq.{getD-set-same, getD-set-other, set-out}
+use Rattle.table.specs.Record.{Record, free}
 use Rattle.table.specs.Table.{at}
 use Rattle.tree.specs.Slots.{_∈_, ∈-decide}
-use Rattle.placing.specs.Place.{raisedAlong}
-use Rattle.newcomer.specs.Newcomer.{raised, adopting}
-
--- ---- one record
-
--- q is r in all that a newcomer elsewhere never changes
-pub record Kept (r q : Record) : Type 0 where
-  pub card : q .card ≡ r .card
-  pub timestamp : q .timestamp ≡ r .timestamp
-  pub parent : q .parent ≡ r .parent
-  pub kind : q .kind ≡ r .kind
-  pub readings : q .readings ≡ r .readings
-
--- q is r but for its radius
-pub record Still (r q : Record) : Type 0 where
-  pub kept : Kept r q
-  pub count : q .count ≡ r .count
-  pub slots : q .slots ≡ r .slots
-
-pub kept-self : (r : Record) → Kept r r
-kept-self r = record { card = refl; timestamp = refl; parent = refl; kind = refl; readings = refl }
-
-pub still-self : (r : Record) → Still r r
-still-self r = record { kept = kept-self r; count = refl; slots = refl }
-
-still-raised : (r q : Record) (k : ℕ) → Still r q → Still r (raised k q)
-unfolding raised
-still-raised r q k h =
-    record {
-      kept =
-          record {
-            card = h .kept .card;
-            timestamp = h .kept .timestamp;
-            parent = h .kept .parent;
-            kind = h .kept .kind;
-            readings = h .kept .readings;
-          };
-      count = h .count;
-      slots = h .slots;
-    }
-
-pub kept-adopting : (r q : Record) (s : ℕ) → Kept r q → Kept r (adopting s q)
-unfolding adopting
-kept-adopting r q s h =
-    record {
-      card = h .card;
-      timestamp = h .timestamp;
-      parent = h .parent;
-      kind = h .kind;
-      readings = h .readings;
-    }
-
--- "s becomes a's last child"
-pub adopting-children :
-    (s : ℕ) (r : Record) → r .count < length (r .slots) → children (adopting s r) ≡ children r ++ (s ∷ [])
-unfolding adopting
-adopting-children s r h = rw add-one (take-suc-set (r .slots) (r .count) s h)
-
--- ---- the row
+use Rattle.descent.specs.Descent.{raisedAlong}
+use Rattle.newcomer.specs.Kept.{Still, still-raised}
+use Rattle.newcomer.specs.Newcomer.{raised}
 
 -- what holds of the old record, and of the new one in its place, holds of every record afterwards
 set-each :

@@ -21,7 +21,7 @@ use Rattle.view.specs.View.{viewOf}
 use Rattle.view.specs.Shaped.{Shaped}
 use Rattle.view.specs.Survey.{usedIn-usedCount, largest-is}
 use Rattle.newcomer.specs.Newcomer.{Newcomer}
-use Rattle.placing.specs.Place.Row.{Kept}
+use Rattle.newcomer.specs.Kept.{Kept}
 
 -- a newcomer x may be put into slot s of these records, n in all
 pub record Ready (n arity s : ℕ) (x : Newcomer) (rows : List Record) : Type 0 where

@@ -1,111 +1,94 @@
--- `search::search` meets its contract: the two groups of tests are all tests, and what no test refuses is listed.
--- Assumes nothing.
-use mathlib.Core.Path.{_≡_, sym, _∙_}
-use lib.ListN.{length}
-use Rattle.distance.specs.Signature.{Fit, readings-fit}
-use Rattle.table.specs.Size.{whole}
-use Rattle.refusals.specs.Refusal.{done}
-use Rattle.search.specs.Search.{refusalOf}
-use Rattle.search.specs.Tests.{refusalBefore, refusalAfter, refusal-before, refusal-after, before-size}
-use Rattle.search.specs.Accepted.{Accepted, accepted}
-use Rattle.search.specs.Laws.{accepted-is, refuses}
+-- `search::search` meets its contract: what its tests refuse is refused, and what none refuses is listed. Assumes
+-- nothing.
+use Prim.Native.Nat.{ℕ}
+use mathlib.Core.Path.{_≡_, sym, subst, _∙_}
 use native.Mathlib.Omega.{arith}
 use borrow.Author.Needs.{needs}
+use lib.ListN.{length}
+use Rattle.distance.specs.Signature.{Fit, readings-fit}
+use Rattle.table.specs.Record.{recordOf}
+use Rattle.table.specs.Table.{recordsIn}
+use Rattle.refusals.specs.Refusal.{done}
+use Rattle.survey.specs.Answers.{Answers}
+use Rattle.search.specs.Search.{refusalOf}
+use Rattle.search.specs.Tests.{Accepted, accepted, refusal-admits}
+use Rattle.search.specs.Laws.{accepted-is, refuses}
 use Rattle.search.proofs.search.Statement.{statement}
 use Rattle.search.proofs.search.Tie as tie
-use Rattle.search.proofs.search.Reads as reads
-use Rattle.search.proofs.search.Lts as lts
-use Rattle.distance.proofs.signature_at.Reads as signature-at-reads
-use Rattle.search.proofs.accepted.Reads as accepted-reads
-use Rattle.search.proofs.refusal_after.Reads as refusal-after-reads
-use Rattle.search.proofs.refusal_before.Reads as refusal-before-reads
-use Rattle.search.proofs.refused.Reads as refused-reads
-use Rattle.survey.proofs.survey.Reads as survey-reads
 
-refusal-before-requires : tie.Need-refusal-before-requires
-refusal-before-requires c κs = search needs
+-- ---- stations
+
+abbrev start : tie.After-admit → tie.Start
+start c = c .before .before .before .before
+
+abbrev tested : tie.After-refusal-of → tie.After-admit
+tested c = c .before
+
+abbrev copied : tie.After-found → tie.Else1
+copied c = c .before .before
+
+abbrev listed : tie.After-slice-known2 → tie.After-accepted
+listed c = c .before .before
+
+-- the refusal of this call
+abbrev refusal : tie.After-admit → ℕ
+refusal c =
+    let a = start c .args in refusalOf (a .t .now) (a .kind) (a .signature .now) (length (a .list .now))
+
+refusal-is : (c : tie.After-refusal-of) → c .refusal-of .result ≡ refusal (tested c)
+refusal-is c = c .refusal-of .ensures (start (tested c) .args .t .now) (tested c .admit .ensures)
+
+-- what is known where no test refuses the call
+none : (c : tie.Else1) → refusal (tested (c .before)) ≡ done
+none c = sym (refusal-is (c .before)) ∙ c .if1 .left
+
+passed :
+    (c : tie.Else1) →
+    let a = start (tested (c .before)) .args in
+    Accepted (a .t .now) (a .kind) (a .signature .now) (length (a .list .now))
+passed c =
+    let a = start (tested (c .before)) .args in
+    accepted (a .t .now) (a .kind) (a .signature .now) (length (a .list .now)) (none c)
+
+answers :
+    (c : tie.Else1) →
+    let l = start (tested (c .before)) .args .t .now in
+    Answers (recordsIn l) (recordOf l) (tested (c .before) .admit .result .found)
+answers c =
+    let a = start (tested (c .before)) .args in
+    let e = tested (c .before) .admit .ensures in
+    e .answers
+    (e .refusal-is ∙ refusal-admits (a .t .now) (a .kind) (a .signature .now) (length (a .list .now)) (none c))
+
+-- the readings of the query fit
+query-fit : (c : tie.After-signature-at) → Fit (c .signature-at .result .readings)
+query-fit c =
+    let h = tested (c .before .before) in
+    let known = h .before .before .shared-slice-known2 .given in
+    subst Fit (sym (c .signature-at .ensures))
+    (readings-fit (start h .args .signature .now) 0 (λ i. omega (arith, known i)))
+
+-- ---- needs
+
+admit-requires : tie.Need-admit-requires
+admit-requires c κs = search needs
+
+refusal-of-requires : tie.Need-refusal-of-requires
+refusal-of-requires c κs = search needs
 
 refused-requires : tie.Need-refused-requires
 refused-requires c κs = search needs
 
 returns : tie.Need-returns
 returns c =
-    let a = c .before .before .before .before .before .before .args in
-    let l = a .t .now in
-    let s = a .signature .now in
-    let n = c .before .if1 .taken in
-    let r = c .before .before .refusal-before .ensures in
-    let e = refusal-before l (a .kind) s (length (a .list .now)) (λ z. n (r ∙ z)) ∙ sym r in
+    let h = c .before .before in
+    let a = start (tested h) .args in
     let x = c .refused .ensures in
-    rw (x .0, x .1, x .2) (refuses l (a .kind) s (a .radius) (a .list .now) _ e n)
-
-abbrev K : lts.Claims
-K = (
-  refusal-before-reads.Asked,
-  refusal-before-reads.Learnt,
-  refused-reads.Asked,
-  refused-reads.Learnt,
-  survey-reads.Asked,
-  survey-reads.Learnt,
-  refusal-after-reads.Asked,
-  refusal-after-reads.Learnt,
-  signature-at-reads.Asked,
-  signature-at-reads.Learnt,
-  accepted-reads.Asked,
-  accepted-reads.Learnt,
-)
-
-none : (c : lts.Else1 K reads.Pre reads.Post) →
-    let a = c .before .before .before .before .before .args in
-    refusalBefore (a .t .now) (a .kind) (a .signature .now) ≡ done
-none c = sym (c .before .refusal-before .ensures) ∙ c .if1 .left
-
-survey-requires : tie.Need-survey-requires
-survey-requires c κs =
-    let a = c .before .before .before .before .before .args in
-    whole (length (a .t .now)) (before-size (a .t .now) (a .kind) (a .signature .now) (none c)) .0
-
-refusal-after-requires : tie.Need-refusal-after-requires
-refusal-after-requires c κs = search needs
-
-refused-requires-2 : tie.Need-refused-requires-2
-refused-requires-2 c κs = search needs
-
-late-refusal : (c : lts.After-refusal-after K reads.Pre reads.Post) →
-    let a = c .before .before .before .before .before .before .before .args in
-    refusalOf (a .t .now) (a .kind) (a .signature .now) (length (a .list .now)) ≡ c .refusal-after .result
-unfolding refusalAfter
-late-refusal c =
-    let a = c .before .before .before .before .before .before .before .args in
-    let l = a .t .now in
-    let s = a .signature .now in
-    let z = none (c .before .before) in
-    let x = c .before .survey .ensures in
-    refusal-after l (a .kind) s (length (a .list .now)) z ∙ rw (← x .used, ← x .kind) (sym (c .refusal-after .ensures))
-
-refusal-none : (c : lts.Else2 K reads.Pre reads.Post) →
-    let a = c .before .before .before .before .before .before .before .before .args in
-    refusalOf (a .t .now) (a .kind) (a .signature .now) (length (a .list .now)) ≡ done
-refusal-none c = late-refusal (c .before) ∙ c .if2 .left
-
-passed : (c : lts.Else2 K reads.Pre reads.Post) →
-    let a = c .before .before .before .before .before .before .before .before .args in
-    Accepted (a .t .now) (a .kind) (a .signature .now) (length (a .list .now))
-passed c =
-    let a = c .before .before .before .before .before .before .before .before .args in
-    let l = a .t .now in
-    let s = a .signature .now in
-    accepted l (a .kind) s (length (a .list .now)) (refusal-none c)
-
-returns-2 : tie.Need-returns-2
-returns-2 c =
-    let a = c .before .before .before .before .before .before .before .before .before .args in
-    let l = a .t .now in
-    let s = a .signature .now in
-    let n = c .before .if2 .taken in
-    let e = late-refusal (c .before .before) in
-    let x = c .refused2 .ensures in
-    rw (x .0, x .1, x .2) (refuses l (a .kind) s (a .radius) (a .list .now) _ e n)
+    rw (x .0, x .1, x .2)
+    (refuses (a .t .now) (a .kind) (a .signature .now) (a .radius) (a .list .now)
+    (h .refusal-of .result)
+    (sym (refusal-is h))
+    (c .before .if1 .taken))
 
 signature-at-requires : tie.Need-signature-at-requires
 signature-at-requires c κs =
@@ -113,42 +96,33 @@ signature-at-requires c κs =
 
 accepted-requires : tie.Need-accepted-requires
 accepted-requires c κs =
-    let a = c .before .before .before .before .before .before .before .before .before .before .args in
-    let l = a .t .now in
-    let s = a .signature .now in
-    let p = passed (c .before .before) in
-    let x = c .before .before .before .before .survey .ensures in
-    let known = c .before .before .before .before .before .before .before .before .shared-slice-known2 .given in
-    let q : Fit (c .before .signature-at .result .readings) =
-    rw (c .before .signature-at .ensures) (readings-fit s 0 (λ i. omega (arith, known i))) in
-    ((p .readable, q, search needs, rw (x .used) (p .room)), (x .used, x .root))
+    let e = copied (c .before) in
+    let p = passed e in
+    let x = answers e in
+    ((p .readable, query-fit (c .before .before), search needs, omega (arith, x .used, p .room)), (x .used, x .root))
 
 same-length : tie.Need-same-length
 same-length c = search needs
 
-returns-3 : tie.Need-returns-3
-returns-3 c =
-    let a =
-    c .before .before .before .before .before .before .before .before .before .before .before .before .before .args in
-    let l = a .t .now in
-    let s = a .signature .now in
-    let e = refusal-none (c .before .before .before .before .before) in
-    rw
-    (accepted-is l (a .kind) s (a .radius) (a .list .now) e, ← c .before .before .before .before .signature-at .ensures)
-    (c .before .before .accepted .ensures)
+returns-2 : tie.Need-returns-2
+returns-2 c =
+    let f = listed c .before .before in
+    let a = start (tested (copied f .before)) .args in
+    rw (
+      accepted-is (a .t .now) (a .kind) (a .signature .now) (a .radius) (a .list .now) (none (copied f)),
+      ← f .before .signature-at .ensures,
+    )
+    (listed c .accepted .ensures)
 
 pub search-spec : {M : Type 1} → statement M
 search-spec =
     tie.close
     (tie.spec
-    refusal-before-requires
+    admit-requires
+    refusal-of-requires
     refused-requires
     returns
-    survey-requires
-    refusal-after-requires
-    refused-requires-2
-    returns-2
     signature-at-requires
     accepted-requires
     same-length
-    returns-3)
+    returns-2)

@@ -32,7 +32,8 @@ start c = c .before .before .before
 
 -- the test of one child
 abbrev passes : tie.Start Inv-loop μ-loop → ℕ → Bool
-passes b = siblingPasses (recordOf (b .args .t .now)) (b .args .kind) (b .args .x .readings) (b .args .time) (b .args .b)
+passes b =
+    siblingPasses (recordOf (b .args .t .now)) (b .args .kind) (b .args .x .readings) (b .args .time) (b .args .b)
 
 -- ---- needs
 

@@ -1,5 +1,5 @@
--- `admission::keys::keys_distinct` meets its contract. The loop's invariant: the keys of the records before s are distinct,
--- and the cells hold just those. Assumes nothing.
+-- `admission::keys::keys_distinct` meets its contract. The loop's invariant: the keys of the records before s are
+-- distinct, and the cells hold just those. Assumes nothing.
 use Prim.Native.Nat.{ℕ, _-_, _≤_}
 use mathlib.Core.Path.{_≡_, sym, ap, _∙_}
 use mathlib.Core.List.{List}

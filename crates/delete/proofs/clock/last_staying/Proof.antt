@@ -1,13 +1,21 @@
--- `delete::clock::last_staying` meets its contract: the slots that leave are marked, and the others looked through. Assumes nothing.
+-- `delete::clock::last_staying` meets its contract: the slots that leave are marked, and the others looked through.
+-- Assumes nothing.
 use Prim.Native.Nat.{ℕ}
 use mathlib.Core.Path.{ap, _∙_}
 use mathlib.Core.List.{List}
 use Rattle.table.specs.Record.{recordOf}
 use Rattle.survey.specs.Survey.{largestTimestamp}
-use Rattle.delete.specs.Clock.{unmarked}
+use Rattle.delete.specs.Loop.Clock.{unmarked}
 use borrow.Author.Needs.{needs}
 use Rattle.delete.proofs.clock.last_staying.Statement.{statement}
 use Rattle.delete.proofs.clock.last_staying.Tie as tie
+
+-- ---- stations
+
+abbrev start : tie.After-mark → tie.Start
+start c = c .before .before .before .before
+
+-- ---- needs
 
 slice-aggregate-mark : tie.Need-slice-aggregate-mark
 slice-aggregate-mark c = search needs
@@ -23,9 +31,10 @@ largest-staying-requires c κs = search needs
 
 returns : tie.Need-returns
 returns c =
-    let a = c .before .before .before .before .before .before .before .args in
+    let m = c .before .before .before in
+    let a = start m .args in
     c .largest-staying .ensures
-    ∙ ap (λ (marks : List ℕ). largestTimestamp (a .n) (unmarked marks (recordOf (a .t .now)))) (c .before .before .before .mark .ensures)
+    ∙ ap (λ (marks : List ℕ). largestTimestamp (a .n) (unmarked marks (recordOf (a .t .now)))) (m .mark .ensures)
 
 pub last-staying-spec : {M : Type 1} → statement M
 last-staying-spec =

@@ -1,9 +1,10 @@
--- `delete::clock::mark` meets its contract. The loop's invariant: the slots in the first i keys are marked, so that marking those
--- in the others leads to the end. Assumes nothing.
+-- `delete::clock::mark` meets its contract. The loop's invariant: the slots in the first i keys are marked, so that
+-- marking those in the others leads to the end. Assumes nothing.
 use Prim.Native.Nat.{_-_, _≤_}
 use mathlib.Core.Path.{_≡_, refl, sym, _∙_}
 use lib.ListN.{length, getD, drop, length-set}
-use Rattle.delete.specs.Clock.{slotIn, marked, marked-all, marked-more, marked-end}
+use Rattle.back.specs.Age.{slotIn}
+use Rattle.delete.specs.Loop.Clock.{marked, marked-all, marked-more, marked-end}
 use native.Mathlib.Omega.{arith}
 use borrow.Author.Needs.{needs}
 use Rattle.delete.proofs.clock.mark.Statement.{statement}
@@ -41,7 +42,11 @@ loop-again c =
     let l = c .before .before .loop in
     let keys = c .before .before .before .args .keys .now in
     let h = c .before .loop-test .taken in
-    (omega (arith, h), length-set (l .marks) (slotIn (getD keys (l .i) 0)) 1 ∙ l .inv .1, marked-more keys (l .marks) (l .i) h ∙ l .inv .2)
+    (
+      omega (arith, h),
+      length-set (l .marks) (slotIn (getD keys (l .i) 0)) 1 ∙ l .inv .1,
+      marked-more keys (l .marks) (l .i) h ∙ l .inv .2,
+    )
 
 same-length : tie.Need-same-length Inv-loop μ-loop
 same-length c = search needs
@@ -49,7 +54,8 @@ same-length c = search needs
 returns : tie.Need-returns Inv-loop μ-loop
 returns c =
     let l = c .before .loop in
-    sym (marked-end (c .before .before .args .keys .now) (l .marks) (l .i) (omega (arith, c .loop-test .left))) ∙ l .inv .2
+    let keys = c .before .before .args .keys .now in
+    sym (marked-end keys (l .marks) (l .i) (omega (arith, c .loop-test .left))) ∙ l .inv .2
 
 pub mark-spec : {M : Type 1} → statement M
 mark-spec =

@@ -2,21 +2,22 @@
 -- of the children's turn, gathered after the keys so far, is what this record and all below it give. Assumes nothing.
 use Prim.Native.Nat.{ℕ, _+_, _-_, _≤_, _<_}
 use mathlib.Core.Path.{_≡_, refl, sym, ap, _∙_}
-use mathlib.Core.List.{List}
+use mathlib.Core.List.{List, _++_}
 use native.Mathlib.Omega.{arith}
 use borrow.Author.Needs.{needs}
 use lib.ListN.{length, length-append}
 use borrow.Fn.Kinds.{In}
 use borrow.Fn.PlainCycle.{Measures, is, falls, and}
+use Rattle.refusals.specs.Limits.{mostChildren}
 use Rattle.table.specs.Record.{recordOf}
 use Rattle.table.specs.Same.{slots-length}
-use Rattle.delete.specs.Gather.{Gathered, slotsUnder, gathered}
+use Rattle.delete.specs.Loop.Gather.{Gathered, slotsUnder, gathered}
 use Rattle.delete.proofs.Gathering
 use Rattle.delete.proofs.gather.gather.Reads as gather
 use Rattle.delete.proofs.gather.gather.Kinds as gather-kinds
 use Rattle.delete.proofs.gather.+gather.Lts-gather as gather-lts
 use Rattle.delete.proofs.gather.child_count.Reads as child-count-reads
-use Rattle.delete.proofs.gather.note_key.Reads as note-key-reads
+use Rattle.back.proofs.note_key.Reads as note-key-reads
 use Rattle.table.proofs.slot_of.Reads as slot-of-reads
 use Rattle.delete.proofs.gather.+gather.{statement}
 use Rattle.delete.proofs.gather.+gather.Tie.{close}
@@ -53,79 +54,78 @@ Known t = (
 )
 
 module _ (τ : ℕ) where
-  returns : gather-lts.Need-returns (Known τ) (gather-at τ) gather.Post Inv-loop μ-loop
-  returns c =
-      let a = c .before .before .before .args in
-      let R = recordOf (a .t .now) in
-      Gathering.gathered-none R (a .keys .now) (a .m) (slotsUnder R (a .left) (a .a))
-      (Gathering.under-end R (a .left) (a .a) (c .if1 .taken))
+  -- ---- stations: a is to be gathered, its key is noted, its children are counted, and each has its turn
 
-  note-key-requires : gather-lts.Need-note-key-requires (Known τ) (gather-at τ) gather.Post Inv-loop μ-loop
-  note-key-requires c κs =
-      let a = c .before .before .before .before .args in
-      let R = recordOf (a .t .now) in
-      let p = c .before .before .before .before .pre .1 in
-      (p .1, p .2, omega (arith, p .3, ap length (Gathering.under-first R (a .left) (a .a) (c .before .if1 .left))))
+  abbrev start :
+      gather-lts.Else1 (Known τ) (gather-at τ) gather.Post Inv-loop μ-loop
+      → gather-lts.Start (Known τ) (gather-at τ) gather.Post Inv-loop μ-loop
+  start c = c .before .before .before
 
-  child-count-requires : gather-lts.Need-child-count-requires (Known τ) (gather-at τ) gather.Post Inv-loop μ-loop
-  child-count-requires c κs = search needs
+  abbrev noted :
+      gather-lts.After-child-count (Known τ) (gather-at τ) gather.Post Inv-loop μ-loop
+      → gather-lts.After-note-key (Known τ) (gather-at τ) gather.Post Inv-loop μ-loop
+  noted c = c .before .before .before
 
-  add-at : gather-lts.Need-add-at (Known τ) (gather-at τ) gather.Post Inv-loop μ-loop
-  add-at c =
-      let a = c .before .before .before .before .before .before .before .before .args in
-      let R = recordOf (a .t .now) in
-      let some =
-      ap length (Gathering.under-first R (a .left) (a .a) (c .before .before .before .before .before .if1 .left)) in
-      let room : a .m < length (a .keys .now) =
-      omega (arith, c .before .before .before .before .before .before .before .before .pre .1 .3, some) in
-      search needs
+  abbrev some :
+      gather-lts.After-child-count (Known τ) (gather-at τ) gather.Post Inv-loop μ-loop
+      → gather-lts.Else1 (Known τ) (gather-at τ) gather.Post Inv-loop μ-loop
+  some c = noted c .before .before
+
+  abbrev turning :
+      gather-lts.After-gather (Known τ) (gather-at τ) gather.Post Inv-loop μ-loop
+      → gather-lts.After-slot-of (Known τ) (gather-at τ) gather.Post Inv-loop μ-loop
+  turning c = c .before .before
+
+  -- there is room for one key
+  room : (c : gather-lts.Else1 (Known τ) (gather-at τ) gather.Post Inv-loop μ-loop) →
+      start c .args .m < length (start c .args .keys .now)
+  room c =
+      let a = start c .args in
+      let first = Gathering.under-first (recordOf (a .t .now)) (a .left) (a .a) (c .if1 .left) in
+      omega (arith, start c .pre .1 .3, ap length first)
 
   -- this record's key is written: the children's turn is left
   begun : (c : gather-lts.After-child-count (Known τ) (gather-at τ) gather.Post Inv-loop μ-loop) →
-      let a = c .before .before .before .before .before .before .before .before .args in
+      let a = start (some c) .args in
       let R = recordOf (a .t .now) in
-      gathered R (c .before .before .before .note-key .last .1 .1 .0) (a .m + 1)
-      (Gathering.restFrom R (a .left - 1) (a .a) 0)
+      gathered R (noted c .note-key .last .1 .1 .0) (a .m + 1) (Gathering.restFrom R (a .left - 1) (a .a) 0)
       ≡ gathered R (a .keys .now) (a .m) (slotsUnder R (a .left) (a .a))
   begun c =
-      let a = c .before .before .before .before .before .before .before .before .args in
+      let a = start (some c) .args in
       let R = recordOf (a .t .now) in
       let rest = Gathering.restFrom R (a .left - 1) (a .a) 0 in
-      ap (λ (l : List ℕ). gathered R l (a .m + 1) rest) (c .before .before .before .note-key .ensures)
+      ap (λ (l : List ℕ). gathered R l (a .m + 1) rest) (noted c .note-key .ensures)
       ∙ Gathering.gathered-first R (a .keys .now) (a .m) (a .a) rest
       ∙ ap (gathered R (a .keys .now) (a .m))
-      (sym (Gathering.under-first R (a .left) (a .a) (c .before .before .before .before .before .if1 .left)))
+      (sym (Gathering.under-first R (a .left) (a .a) (some c .if1 .left)))
 
   few : (c : gather-lts.After-child-count (Known τ) (gather-at τ) gather.Post Inv-loop μ-loop) →
-      let a = c .before .before .before .before .before .before .before .before .args in
+      let a = start (some c) .args in
       (c .child-count .result ≡ recordOf (a .t .now) (a .a) .count)
-      × (c .child-count .result ≤ 8)
+      × (c .child-count .result ≤ mostChildren)
       × (recordOf (a .t .now) (a .a) .count ≤ length (recordOf (a .t .now) (a .a) .slots))
   few c =
-      let a = c .before .before .before .before .before .before .before .before .args in
-      let p = c .before .before .before .before .before .before .before .before .pre .1 in
-      let h : recordOf (a .t .now) (a .a) .count ≤ 8 = p .0 .few (a .a) (p .1) in
+      let a = start (some c) .args in
+      let p = start (some c) .pre .1 in
+      let h : recordOf (a .t .now) (a .a) .count ≤ mostChildren = p .0 .few (a .a) (p .1) in
       (c .child-count .ensures, omega (arith, c .child-count .ensures), omega (arith, slots-length (a .t .now) (a .a)))
-
-  loop-holds : gather-lts.Need-loop-holds (Known τ) (gather-at τ) gather.Post Inv-loop μ-loop
-  loop-holds c = (search needs, refl, refl)
 
   -- the loop's keys and what is left lead to what the contract says
   on : (c : gather-lts.At-loop (Known τ) (gather-at τ) gather.Post Inv-loop μ-loop) →
-      let a = c .before .before .before .before .before .before .before .before .before .args in
+      let a = start (some (c .before)) .args in
       let R = recordOf (a .t .now) in
       gathered R (c .loop .keys) (c .loop .at) (Gathering.restFrom R (a .left - 1) (a .a) (c .loop .k))
       ≡ gathered R (a .keys .now) (a .m) (slotsUnder R (a .left) (a .a))
   on c = c .loop .inv .2 ∙ begun (c .before)
 
   reach : (c : gather-lts.At-loop (Known τ) (gather-at τ) gather.Post Inv-loop μ-loop) →
-      let a = c .before .before .before .before .before .before .before .before .before .args in
+      let a = start (some (c .before)) .args in
       let R = recordOf (a .t .now) in
       (length (c .loop .keys) ≡ length (a .keys .now))
       × (c .loop .at + length (Gathering.restFrom R (a .left - 1) (a .a) (c .loop .k))
       ≡ a .m + length (slotsUnder R (a .left) (a .a)))
   reach c =
-      let a = c .before .before .before .before .before .before .before .before .before .args in
+      let a = start (some (c .before)) .args in
       let R = recordOf (a .t .now) in
       let rest = Gathering.restFrom R (a .left - 1) (a .a) (c .loop .k) in
       let all = slotsUnder R (a .left) (a .a) in (
@@ -137,12 +137,53 @@ module _ (τ : ℕ) where
             ∙ Gathering.gathered-at R (a .keys .now) (a .m) all,
       )
 
+  -- a child's turn is one of the children's
+  turn : (c : gather-lts.In-loop (Known τ) (gather-at τ) gather.Post Inv-loop μ-loop) →
+      let a = start (some (c .before .before)) .args in
+      c .before .loop .k < recordOf (a .t .now) (a .a) .count
+  turn c = omega (arith, few (c .before .before) .0, c .loop-test .taken)
+
+  -- what is left is what stands at or below this child, and then the rest
+  more : (c : gather-lts.After-slot-of (Known τ) (gather-at τ) gather.Post Inv-loop μ-loop) →
+      let l = c .before .before in
+      let a = start (some (l .before)) .args in
+      let R = recordOf (a .t .now) in
+      Gathering.restFrom R (a .left - 1) (a .a) (l .loop .k)
+      ≡ slotsUnder R (a .left - 1) (c .slot-of .result) ++ Gathering.restFrom R (a .left - 1) (a .a) (l .loop .k + 1)
+  more c =
+      let l = c .before .before in
+      let a = start (some (l .before)) .args in
+      Gathering.rest-more (recordOf (a .t .now)) (a .left - 1) (a .a) (l .loop .k) (c .slot-of .result)
+      (few (l .before) .2) (turn (c .before)) (c .slot-of .ensures)
+
+  -- ---- needs
+
+  returns : gather-lts.Need-returns (Known τ) (gather-at τ) gather.Post Inv-loop μ-loop
+  returns c =
+      let a = c .before .before .before .args in
+      let R = recordOf (a .t .now) in
+      Gathering.gathered-none R (a .keys .now) (a .m) (slotsUnder R (a .left) (a .a))
+      (Gathering.under-end R (a .left) (a .a) (c .if1 .taken))
+
+  note-key-requires : gather-lts.Need-note-key-requires (Known τ) (gather-at τ) gather.Post Inv-loop μ-loop
+  note-key-requires c κs = let p = start (c .before) .pre .1 in (p .1, p .2, room (c .before))
+
+  child-count-requires : gather-lts.Need-child-count-requires (Known τ) (gather-at τ) gather.Post Inv-loop μ-loop
+  child-count-requires c κs = start (c .before .before .before .before) .pre .1 .1
+
+  add-at : gather-lts.Need-add-at (Known τ) (gather-at τ) gather.Post Inv-loop μ-loop
+  add-at c =
+      let s = start (some c) in
+      let h : s .args .m < length (s .args .keys .now) = room (some c) in
+      search needs
+
+  loop-holds : gather-lts.Need-loop-holds (Known τ) (gather-at τ) gather.Post Inv-loop μ-loop
+  loop-holds c = (search needs, refl, refl)
+
   slot-of-requires : gather-lts.Need-slot-of-requires (Known τ) (gather-at τ) gather.Post Inv-loop μ-loop
   slot-of-requires c κs =
-      let f = few (c .before .before) in (
-        c .before .before .before .before .before .before .before .before .before .before .pre .1 .1,
-        omega (arith, f .1, c .loop-test .taken),
-      )
+      let b = c .before .before in
+      (start (some b) .pre .1 .1, omega (arith, few b .1, c .loop-test .taken))
 
   cast-c : gather-lts.Need-cast-c (Known τ) (gather-at τ) gather.Post Inv-loop μ-loop
   cast-c c = search needs
@@ -152,27 +193,24 @@ module _ (τ : ℕ) where
 
   gather-requires : gather-lts.Need-gather-requires (Known τ) (gather-at τ) gather.Post Inv-loop μ-loop
   gather-requires c κs =
-      let a = c .before .before .before .before .before .before .before .before .before .before .before .before .args in
+      let b = c .before in
+      let l = b .before .before in
+      let s = start (some (l .before)) in
+      let a = s .args in
       let R = recordOf (a .t .now) in
-      let p = c .before .before .before .before .before .before .before .before .before .before .before .before .pre in
-      let l = c .before .before .before .loop in
-      let f = few (c .before .before .before .before) in
-      let k : l .k < R (a .a) .count = omega (arith, f .0, c .before .before .loop-test .taken) in
-      let more =
-      ap length (Gathering.rest-more R (a .left - 1) (a .a) (l .k) (c .before .slot-of .result) (f .2) k
-      (c .before .slot-of .ensures)) in (
-        omega (arith, p .0, c .before .before .before .before .before .before .before .before .before .if1 .left),
+      let p = s .pre in (
+        omega (arith, p .0, some (l .before) .if1 .left),
         (
           p .1 .0,
-          rw (c .before .slot-of .ensures) (p .1 .0 .stand (a .a) (l .k) (p .1 .1) k),
+          rw (b .slot-of .ensures) (p .1 .0 .stand (a .a) (l .loop .k) (p .1 .1) (turn (b .before))),
           p .1 .2,
           omega (
             arith,
-            more,
-            length-append (slotsUnder R (a .left - 1) (c .before .slot-of .result))
-                (Gathering.restFrom R (a .left - 1) (a .a) (l .k + 1)),
-            reach (c .before .before .before) .0,
-            reach (c .before .before .before) .1,
+            ap length (more b),
+            length-append (slotsUnder R (a .left - 1) (b .slot-of .result))
+                (Gathering.restFrom R (a .left - 1) (a .a) (l .loop .k + 1)),
+            reach l .0,
+            reach l .1,
             p .1 .3,
           ),
         ),
@@ -186,24 +224,20 @@ module _ (τ : ℕ) where
 
   loop-again : gather-lts.Need-loop-again (Known τ) (gather-at τ) gather.Post Inv-loop μ-loop
   loop-again c =
-      let a =
-      c .before .before .before .before .before .before .before .before .before .before .before .before .before
-      .before .before .args in
+      let came = c .before .before in
+      let b = turning came in
+      let h = b .before .before in
+      let l = h .loop in
+      let a = start (some (h .before)) .args in
       let R = recordOf (a .t .now) in
-      let l = c .before .before .before .before .before .before .loop in
-      let f = few (c .before .before .before .before .before .before .before) in
-      let k : l .k < R (a .a) .count =
-      omega (arith, f .0, c .before .before .before .before .before .loop-test .taken) in
-      let at-child = c .before .before .before .before .slot-of in
-      let low = slotsUnder R (a .left - 1) (at-child .result) in
+      let low = slotsUnder R (a .left - 1) (b .slot-of .result) in
       let rest = Gathering.restFrom R (a .left - 1) (a .a) (l .k + 1) in
-      let came = c .before .before .gather .ensures in (
-        omega (arith, k, f .0),
-        ap (λ (g : Gathered). length (g .keys)) came ∙ Gathering.gathered-length R (l .keys) (l .at) low ∙ l .inv .1,
-        ap (λ (g : Gathered). gathered R (g .keys) (g .at) rest) came
+      let e = came .gather .ensures in (
+        omega (arith, turn (b .before), few (h .before) .0),
+        ap (λ (g : Gathered). length (g .keys)) e ∙ Gathering.gathered-length R (l .keys) (l .at) low ∙ l .inv .1,
+        ap (λ (g : Gathered). gathered R (g .keys) (g .at) rest) e
             ∙ sym (Gathering.gathered-append R (l .keys) (l .at) low rest)
-            ∙ ap (gathered R (l .keys) (l .at))
-            (sym (Gathering.rest-more R (a .left - 1) (a .a) (l .k) (at-child .result) (f .2) k (at-child .ensures)))
+            ∙ ap (gathered R (l .keys) (l .at)) (sym (more b))
             ∙ l .inv .2,
       )
 
@@ -212,13 +246,13 @@ module _ (τ : ℕ) where
 
   returns-2 : gather-lts.Need-returns-2 (Known τ) (gather-at τ) gather.Post Inv-loop μ-loop
   returns-2 c =
-      let a = c .before .before .before .before .before .before .before .before .before .before .args in
+      let h = c .before in
+      let a = start (some (h .before)) .args in
       let R = recordOf (a .t .now) in
-      let l = c .before .loop in
-      let f = few (c .before .before) in
-      Gathering.gathered-none R (l .keys) (l .at) _
-      (Gathering.rest-end R (a .left - 1) (a .a) (l .k) (f .2) (omega (arith, f .0, c .loop-test .left)))
-      ∙ on (c .before)
+      let f = few (h .before) in
+      Gathering.gathered-none R (h .loop .keys) (h .loop .at) _
+      (Gathering.rest-end R (a .left - 1) (a .a) (h .loop .k) (f .2) (omega (arith, f .0, c .loop-test .left)))
+      ∙ on h
 
 pub +gather-spec : {M : Type 1} → statement M
 +gather-spec = close μ-gather λ τ. gather-lts.spec (Known τ) (gather-at τ) gather.Post Inv-loop μ-loop

@@ -1,5 +1,5 @@
--- `insert::call::insert` meets its contract: the call ends refused by the admission, refused by its own tests, or placed.
--- Assumes nothing.
+-- `insert::call::insert` meets its contract: the call ends refused by the admission, refused by its own tests, or
+-- placed. Assumes nothing.
 use Prim.Native.Nat.{ℕ}
 use mathlib.Core.Path.{_≡_, sym, _∙_}
 use native.Mathlib.Omega.{arith}

@@ -50,7 +50,8 @@ returns-2 c =
     let b = start (tested .before) in
     let a = b .args in
     c .held-refusal .ensures
-    ∙ found-held (a .t .now) (a .card) (a .kind) (a .arity) (a .signature .now) (b .pre .1) (slot .result) (slot .ensures)
+    ∙ found-held (a .t .now) (a .card) (a .kind) (a .arity) (a .signature .now)
+    (b .pre .1) (slot .result) (slot .ensures)
     ∙ sym (own-held (a .t .now) (a .card) (a .kind) (a .arity) (a .signature .now) (right tested))
 
 pub own-refusal-spec : {M : Type 1} → statement M

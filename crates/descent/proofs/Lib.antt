@@ -1,0 +1,2 @@
+-- What the proof of the descent cites.
+mod Descending

@@ -1,0 +1,2 @@
+-- What the descent's loop needs besides its definition.
+pub mod DescentTurn
