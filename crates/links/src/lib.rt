@@ -9,7 +9,7 @@ ghost use Rattle.table.specs.Stands.{Stands, StandTo};
 ghost use Rattle.judge.specs.WellFormed.{isFilled, pastCount};
 ghost use Rattle.judge.specs.Counted.{allLinked};
 ghost use Rattle.links.specs.Floors.{firstFloors, lastFloors};
-ghost use Rattle.links.specs.Loop.Seen.{SeenBefore, Ended};
+ghost use Rattle.links.specs.Loop.Seen.{SeenBefore, Looked, Ended, unfit};
 use refusals::limit::CHILDREN;
 use table::NO_SLOT;
 
@@ -138,15 +138,35 @@ fn one_of(test: bool, a: usize, b: usize) -> usize
     if test { a } else { b }
 }
 
-// What the pass has seen, with the record in slot s besides.
+// What is told where a record does not fit.
+fn misfit() -> Seen
+    ensures { λ r. ⌜ r ≡ unfit ⌝ }
+{
+    Seen {
+        fit: false,
+        kind: 0,
+        used: 0,
+        roots: 0,
+        children: 0,
+        lowest: 0,
+        largest: 0,
+        root: 0,
+    }
+}
+
+// What the pass has seen, with the record in slot s besides. A record that does not fit ends it at once, so that no number
+// has to be kept for it.
 fn look(t: &[u8], n: usize, s: usize, seen: Seen, first: &[u64; 9], last: &[u64; 9]) -> Seen
     requires { ⌜ (now first ≡ firstFloors) × (now last ≡ lastFloors) ⌝ }
     requires { ⌜ StandTo (now t) n × (n ≤ mostRecords) × (s < n) × SeenBefore n (recordOf (now t)) s seen ⌝ }
-    ensures { λ r. ⌜ SeenBefore n (recordOf (now (t .entry))) (s + 1) r ⌝ }
+    ensures { λ r. ⌜ Looked n (recordOf (now (t .entry))) s r ⌝ }
 {
     if table::card_of(t, s) == 0 {
+        if !table::is_free(t, s) {
+            return misfit();
+        }
         return Seen {
-            fit: seen.fit & table::is_free(t, s),
+            fit: true,
             kind: seen.kind,
             used: seen.used,
             roots: seen.roots,
@@ -159,11 +179,15 @@ fn look(t: &[u8], n: usize, s: usize, seen: Seen, first: &[u64; 9], last: &[u64;
     let kind = table::kind_of(t, s);
     let count = table::count_of(t, s);
     let timestamp = table::timestamp_of(t, s);
+    if (seen.kind != 0) & (seen.kind != kind) {
+        return misfit();
+    }
+    if !record_ok(t, n, s, kind, count, timestamp, first, last) {
+        return misfit();
+    }
     let root = table::parent_of(t, s) == NO_SLOT;
     Seen {
-        fit: seen.fit
-            & (((seen.kind == 0) | (seen.kind == kind))
-                && record_ok(t, n, s, kind, count, timestamp, first, last)),
+        fit: true,
         kind,
         used: seen.used + 1,
         roots: seen.roots + root as usize,

@@ -1,18 +1,23 @@
 -- `links::links` meets its contract. The loop's invariant: it has seen the records before s. Assumes nothing.
 use Prim.Native.Nat.{_≤_, _-_}
-use mathlib.Core.Path.{_≡_}
+use mathlib.Core.Bool.{true}
+use mathlib.Core.Path.{_≡_, refl}
 use Rattle.table.specs.Record.{recordOf}
 use Rattle.links.specs.Floors.{firstFloors, lastFloors}
 use Rattle.links.specs.Loop.Seen.{SeenBefore, seen-none, ended-whole, ended-early}
 use native.Mathlib.Omega.{arith}
 use borrow.Author.Needs.{needs}
-use borrow.Author.Tests.{not-true}
+use borrow.Author.Tests.{not-true, not-false}
 use Rattle.links.proofs.links.Statement.{statement}
 use Rattle.links.proofs.links.Tie as tie
 
 abbrev Inv-loop : tie.InvT-loop
 Inv-loop t n first last seen₀ s₀ seen s =
-    (s ≤ n) × SeenBefore n (recordOf t) s seen × (first ≡ firstFloors) × (last ≡ lastFloors)
+    (s ≤ n)
+    × SeenBefore n (recordOf t) s seen
+    × (first ≡ firstFloors)
+    × (last ≡ lastFloors)
+    × (seen .fit ≡ true)
 
 abbrev μ-loop : tie.MeasureT-loop
 μ-loop t n first last seen₀ s₀ seen s = n - s
@@ -40,6 +45,7 @@ loop-holds c =
       seen-none (a .n) (recordOf (a .t .now)),
       c .before .first-floors .ensures,
       c .last-floors .ensures,
+      refl,
     )
 
 look-requires : tie.Need-look-requires Inv-loop μ-loop
@@ -66,13 +72,17 @@ loop-less : tie.Need-loop-less Inv-loop μ-loop
 loop-less c = search needs
 
 loop-again : tie.Need-loop-again Inv-loop μ-loop
-loop-again c = search needs
+loop-again c =
+    let looked = c .before .before in
+    let l = turn looked .before .loop in
+    let fit = not-false (looked .look .result .fit) (c .if1 .left) in
+    (omega arith, looked .look .ensures .fitting fit, l .inv .2, l .inv .3, fit)
 
 returns-2 : tie.Need-returns-2 Inv-loop μ-loop
 returns-2 c =
     let l = c .before .loop in
     let a = start (c .before) .args in
-    ended-whole (a .n) (recordOf (a .t .now)) (l .seen) (l .s) (omega arith) (l .inv .1)
+    ended-whole (a .n) (recordOf (a .t .now)) (l .seen) (l .s) (omega arith) (l .inv .4) (l .inv .1)
 
 pub links-spec : {M : Type 1} → statement M
 links-spec =

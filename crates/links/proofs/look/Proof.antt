@@ -1,30 +1,45 @@
--- `links::look` meets its contract: a record without card adds whether it is free, any other its own numbers.
--- Assumes nothing.
-use Prim.Native.Nat.{ℕ, _≤_, max}
-use mathlib.Core.Path.{_≡_, sym, ap, _∙_}
-use mathlib.Core.Bool.{Bool, _&&_, _||_}
-use mathlib.Core.Logic.{⊎-elim}
+-- `links::look` meets its contract: a record that does not fit ends the look, one without card adds its slot, and any
+-- other its own numbers. Assumes nothing.
+use Prim.Native.Nat.{ℕ, _≤_}
+use mathlib.Core.Path.{_≡_, refl, sym, _∙_}
+use mathlib.Core.Bool.{Bool, true, false}
 use lib.Dec.{eqb}
 use Rattle.table.specs.Record.{Record, Used, recordOf, noSlot}
 use Rattle.table.specs.Stands.{Stands, stands-below}
-use Rattle.judge.specs.WellFormed.{isFilled}
-use Rattle.judge.specs.Counted.{allLinked}
-use Rattle.links.specs.Loop.Seen.{SeenBefore, seen-most, seen-free, seen-used, byte-most, told}
+use Rattle.links.specs.Loop.Seen.{
+  seen-most,
+  seen-free,
+  seen-used,
+  free-unfit,
+  kind-unfit,
+  record-unfit,
+  looked-unfit,
+  looked-fit,
+  byte-most,
+  told,
+}
 use native.Mathlib.Omega.{arith}
 use borrow.Author.Needs.{needs}
+use borrow.Author.Tests.{not-true, not-false}
 use Rattle.links.proofs.look.Statement.{statement}
 use Rattle.links.proofs.look.Tie as tie
 
--- ---- stations: the start, seen from where the card is read, and from where all fields are
+-- ---- stations: the start, where the card is read; that place, where the timestamp is; and that, where the kind fits
 
 abbrev start : tie.After-card-of → tie.Start
 start c = c .before .before
 
-abbrev carded : tie.After-parent-of → tie.After-card-of
-carded c = c .before .before .before .before .before
+abbrev kinded : tie.After-timestamp-of → tie.After-kind-of
+kinded c = c .before .before
 
-abbrev kinded : tie.After-parent-of → tie.After-kind-of
-kinded c = c .before .before .before
+abbrev carded : tie.After-timestamp-of → tie.After-card-of
+carded c = kinded c .before .before
+
+abbrev timed : tie.Else3 → tie.After-timestamp-of
+timed c = c .before .before .before
+
+abbrev like : tie.After-parent-of → tie.Else3
+like c = c .before .before .before
 
 abbrev records : tie.Start → ℕ → Record
 records b = recordOf (b .args .t .now)
@@ -33,28 +48,13 @@ records b = recordOf (b .args .t .now)
 here : (b : tie.Start) → Stands (b .args .t .now) (b .args .s)
 here b = stands-below (b .args .t .now) (b .args .n) (b .args .s) (b .pre .1 .0) (b .pre .1 .2)
 
--- the record in slot s is used where its fields are read
+-- it is used where its fields are read
 in-use : (c : tie.Else1) → Used (records (start (c .before)) (start (c .before) .args .s))
 in-use c = omega (arith, c .before .card-of .ensures, c .if1 .left)
 
 -- no number is more than the slots before s
 most : (b : tie.Start) → (b .args .seen .used ≤ b .args .s) × (b .args .seen .roots ≤ b .args .s)
 most b = seen-most (b .args .n) (records b) (b .args .s) (b .args .seen) (b .pre .1 .3)
-
--- what the two tests together say of the record, of the kind that is before it
-fitting : (c : tie.Joined2) →
-    let b = start (carded (c .before)) in
-    let own = kinded (c .before) .kind-of .result in
-    c .if2 .t40
-    ≡ (eqb (b .args .seen .kind) 0 || eqb (b .args .seen .kind) own)
-    && (isFilled (records b (b .args .s)) && allLinked (b .args .n) (records b) (b .args .s))
-fitting c =
-    let b = start (carded (c .before)) in
-    let formed = isFilled (records b (b .args .s)) && allLinked (b .args .n) (records b) (b .args .s) in
-    ⊎-elim
-    (λ w. w .2 ∙ w .1 .ensures ∙ sym (ap (λ (t : Bool). t && formed) (w .0 .taken)))
-    (λ w. w .1 ∙ w .0 .left ∙ sym (ap (λ (t : Bool). t && formed) (w .0 .left)))
-    (c .if2 .came)
 
 -- ---- needs
 
@@ -64,24 +64,35 @@ card-of-requires c κs = here (c .before)
 is-free-requires : tie.Need-is-free-requires
 is-free-requires c κs = here (start (c .before))
 
-earlier-requires : tie.Need-earlier-requires
-earlier-requires c κs = search needs
+misfit-requires : tie.Need-misfit-requires
+misfit-requires c κs = search needs
 
 returns : tie.Need-returns
 returns c =
-    let read = c .before in
+    let read = c .before .before in
     let b = start (read .before .before) in
-    seen-free
-    (b .args .n)
-    (records b)
-    (b .args .s)
-    (b .args .seen)
-    (b .pre .1 .3)
-    (read .is-free .result)
+    let free = told (b .args .t .now) (b .args .s) (read .is-free .result) (read .is-free .ensures) in
+    let none = sym (read .before .before .card-of .ensures) ∙ read .before .if1 .taken in
+    looked-unfit (b .args .n) (records b) (b .args .s) (c .misfit .result)
+    (free-unfit (b .args .n) (records b) (b .args .s) none
+    (sym free ∙ not-true (read .is-free .result) (c .before .if2 .taken)))
+    (c .misfit .ensures)
+
+earlier-requires : tie.Need-earlier-requires
+earlier-requires c κs = search needs
+
+returns-2 : tie.Need-returns-2
+returns-2 c =
+    let read = c .before .before in
+    let b = start (read .before .before) in
+    let free = told (b .args .t .now) (b .args .s) (read .is-free .result) (read .is-free .ensures) in
+    let none = sym (read .before .before .card-of .ensures) ∙ read .before .if1 .taken in
+    looked-fit (b .args .n) (records b) (b .args .s) _ refl
+    (seen-free (b .args .n) (records b) (b .args .s) (b .args .seen) (b .pre .1 .3)
     (c .earlier .result)
-    (sym (read .before .before .card-of .ensures) ∙ read .before .if1 .taken)
-    (told (b .args .t .now) (b .args .s) (read .is-free .result) (read .is-free .ensures))
-    (c .earlier .ensures)
+    none
+    (sym free ∙ not-false (read .is-free .result) (c .before .if2 .left))
+    (c .earlier .ensures))
 
 kind-of-requires : tie.Need-kind-of-requires
 kind-of-requires c κs = here (start (c .before))
@@ -92,35 +103,67 @@ count-of-requires c κs = here (start (c .before .before))
 timestamp-of-requires : tie.Need-timestamp-of-requires
 timestamp-of-requires c κs = here (start (c .before .before .before))
 
-parent-of-requires : tie.Need-parent-of-requires
-parent-of-requires c κs = here (start (c .before .before .before .before))
+misfit-requires-2 : tie.Need-misfit-requires-2
+misfit-requires-2 c κs = search needs
+
+returns-3 : tie.Need-returns-3
+returns-3 c =
+    let read = c .before .before .before .before in
+    let b = start (carded read) in
+    let kind = kinded read .kind-of in
+    looked-unfit (b .args .n) (records b) (b .args .s) (c .misfit2 .result)
+    (kind-unfit (b .args .n) (records b) (b .args .s) (b .args .seen) (b .pre .1 .3)
+    (kind .result) (in-use (kinded read .before)) (kind .ensures) (c .before .if3 .taken))
+    (c .misfit2 .ensures)
 
 record-ok-requires : tie.Need-record-ok-requires
 record-ok-requires c κs =
-    let timed = c .before .before in
-    let b = start (carded (c .before)) in
-    let here = b .pre .1 in
-    let kind = kinded (c .before) .kind-of .ensures in
-    (b .pre .0, (here .0, here .2, in-use (kinded (c .before) .before), kind, timed .before .count-of .ensures, timed .timestamp-of .ensures))
+    let read = timed c in
+    let b = start (carded read) in
+    let p = b .pre .1 in
+    let kind = kinded read .kind-of .ensures in
+    let count = read .before .count-of .ensures in
+    (b .pre .0, (p .0, p .2, in-use (kinded read .before), kind, count, read .timestamp-of .ensures))
 
-add-t57 : tie.Need-add-t57
-add-t57 c =
-    let b = start (carded (c .before)) in
+misfit-requires-3 : tie.Need-misfit-requires-3
+misfit-requires-3 c κs = search needs
+
+returns-4 : tie.Need-returns-4
+returns-4 c =
+    let tested = c .before .before in
+    let read = timed (tested .before) in
+    let b = start (carded read) in
+    looked-unfit (b .args .n) (records b) (b .args .s) (c .misfit3 .result)
+    (record-unfit (b .args .n) (records b) (b .args .s) (in-use (kinded read .before))
+    (sym (tested .record-ok .ensures) ∙ not-true (tested .record-ok .result) (c .before .if4 .taken)))
+    (c .misfit3 .ensures)
+
+parent-of-requires : tie.Need-parent-of-requires
+parent-of-requires c κs = here (start (carded (timed (c .before .before))))
+
+add-t19 : tie.Need-add-t19
+add-t19 c =
+    let b = start (carded (timed (like (c .before)))) in
     omega (arith, most b .0, b .pre .1 .1, b .pre .1 .2)
 
-cast-t60 : tie.Need-cast-t60
-cast-t60 c = search needs
+cast-t20 : tie.Need-cast-t20
+cast-t20 c = search needs
 
-add-t61 : tie.Need-add-t61
-add-t61 c =
-    let b = start (carded (c .before)) in
-    omega (arith, most b .1, b .pre .1 .1, b .pre .1 .2, byte-most (eqb (c .before .parent-of .result) noSlot))
+add-t21 : tie.Need-add-t21
+add-t21 c =
+    let hung = c .before .before in
+    let b = start (carded (timed (like hung))) in
+    omega (arith, most b .1, b .pre .1 .1, b .pre .1 .2, byte-most (eqb (hung .parent-of .result) noSlot))
 
-cast-t64 : tie.Need-cast-t64
-cast-t64 c = search needs
+cast-t22 : tie.Need-cast-t22
+cast-t22 c = search needs
 
-add-t65 : tie.Need-add-t65
-add-t65 c = search needs
+add-t23 : tie.Need-add-t23
+add-t23 c =
+    let hung = c .before .before .before in
+    let read = timed (like hung) in
+    let b = start (carded read) in
+    omega (arith, b .pre .1 .3 .few, b .pre .1 .1, b .pre .1 .2, read .before .count-of .ok)
 
 larger-requires : tie.Need-larger-requires
 larger-requires c κs = search needs
@@ -128,37 +171,32 @@ larger-requires c κs = search needs
 one-of-requires : tie.Need-one-of-requires
 one-of-requires c κs = search needs
 
-returns-2 : tie.Need-returns-2
-returns-2 c =
+returns-5 : tie.Need-returns-5
+returns-5 c =
     let larger = c .before in
-    let joined = larger .before in
-    let hung = joined .before in
-    let timed = hung .before in
-    let counted = timed .before in
-    let b = start (carded hung) in
-    seen-used
-    (b .args .n)
-    (records b)
-    (b .args .s)
-    (b .args .seen)
-    (b .pre .1 .3)
-    (joined .if2 .t40)
-    (kinded hung .kind-of .result)
-    (counted .count-of .result)
+    let hung = larger .before .before .before .before in
+    let read = timed (like hung) in
+    let b = start (carded read) in
+    let tested = hung .before .before in
+    looked-fit (b .args .n) (records b) (b .args .s) _ refl
+    (seen-used (b .args .n) (records b) (b .args .s) (b .args .seen) (b .pre .1 .3)
+    (kinded read .kind-of .result)
+    (read .before .count-of .result)
     (hung .parent-of .result)
-    (timed .timestamp-of .result)
+    (read .timestamp-of .result)
     (larger .larger .result)
     (c .one-of .result)
     (b .pre .1 .2)
-    (in-use (kinded hung .before))
-    (fitting joined)
-    (kinded hung .kind-of .ensures)
-    (counted .count-of .ensures)
+    (in-use (kinded read .before))
+    (like hung .if3 .left)
+    (sym (tested .record-ok .ensures) ∙ not-false (tested .record-ok .result) (hung .before .if4 .left))
+    (kinded read .kind-of .ensures)
+    (read .before .count-of .ensures)
     (hung .parent-of .ensures)
-    (timed .timestamp-of .ensures)
-    (omega (arith, counted .count-of .ok))
+    (read .timestamp-of .ensures)
+    (omega (arith, read .before .count-of .ok))
     (larger .larger .ensures)
-    (c .one-of .ensures)
+    (c .one-of .ensures))
 
 pub look-spec : {M : Type 1} → statement M
 look-spec =
@@ -166,18 +204,24 @@ look-spec =
     (tie.spec
     card-of-requires
     is-free-requires
-    earlier-requires
+    misfit-requires
     returns
+    earlier-requires
+    returns-2
     kind-of-requires
     count-of-requires
     timestamp-of-requires
-    parent-of-requires
+    misfit-requires-2
+    returns-3
     record-ok-requires
-    add-t57
-    cast-t60
-    add-t61
-    cast-t64
-    add-t65
+    misfit-requires-3
+    returns-4
+    parent-of-requires
+    add-t19
+    cast-t20
+    add-t21
+    cast-t22
+    add-t23
     larger-requires
     one-of-requires
-    returns-2)
+    returns-5)

@@ -1,15 +1,15 @@
 -- Loop: what the pass has seen of the records before slot s, and how the record in slot s adds to it. Assumes nothing.
 use Prim.Native.Nat.{ℕ, _+_, _*_, _≤_, _<_, min, max}
 use mathlib.Core.Path.{_≡_, refl, sym, ap, _∙_, subst}
-use mathlib.Core.Bool.{Bool, true, false, _&&_, _||_, not, false≢true}
+use mathlib.Core.Bool.{Bool, true, false, _&&_, not, false≢true}
 use mathlib.Core.List.{List}
 use native.Mathlib.Omega.{arith}
 use native.Mathlib.Numerals.{add-one}
 use lib.Dec.{eqb}
 use mir.Val.{boolByte}
-use borrow.Author.Tests.{le-leb, lt-leb}
-use Rattle.places.specs.Choice.{pick, or-implies}
-use Rattle.places.specs.Test.{allTo, countTo, all-none, all-short, all-more, count-more, count-still, count-most}
+use borrow.Author.Tests.{le-leb, lt-leb, not-true, not-false}
+use Rattle.places.specs.Choice.{pick, implies}
+use Rattle.places.specs.Test.{allTo, countTo, all-none, all-fails, all-more, count-more, count-still, count-most}
 use Rattle.places.specs.Sum.{sumTo, sum-more, sum-still}
 use Rattle.places.specs.Decides.{decides-same}
 use Rattle.table.specs.Record.{Record, Used, used, noSlot, recordOf}
@@ -37,9 +37,14 @@ largestByte = 255
 abbrev pub isEmpty : (ℕ → Record) → ℕ → Bool
 isEmpty R s = not (used (R s))
 
--- `few` is what keeps the sum of child counts within its type
+-- what is told where a record does not fit
+abbrev pub unfit : Seen
+unfit =
+    record { fit = false; kind = 0; used = 0; roots = 0; children = 0; lowest = 0; largest = 0; root = 0 }
+
+-- the records before s fit; `few` is what keeps the sum of child counts within its type
 pub record SeenBefore (n : ℕ) (R : ℕ → Record) (s : ℕ) (seen : Seen) : Type 0 where
-  pub fit : seen .fit ≡ allTo s (fits n R)
+  pub fit : true ≡ allTo s (fits n R)
   pub kind : seen .kind ≡ kindBefore R s
   pub used : seen .used ≡ usedCount s R
   pub roots : seen .roots ≡ rootCount s R
@@ -57,6 +62,14 @@ byte-pick : (t : Bool) → boolByte t ≡ pick {A = ℕ} t 1 0
 byte-pick true = refl
 byte-pick false = refl
 
+and-no : (t : Bool) → t && false ≡ false
+and-no true = refl
+and-no false = refl
+
+both-not : (a b : Bool) → not a && not b ≡ not (implies (not a) b)
+both-not true b = refl
+both-not false b = refl
+
 -- the read of a free record is the test of one
 pub told : (l : List ℕ) (s : ℕ) (ok : Bool) → TellsFree l s ok → ok ≡ isFree (recordOf l s)
 told l s ok h = decides-same (record { shows = h .says; passes = h .said }) (free-decided (recordOf l s))
@@ -70,6 +83,28 @@ module _ (n : ℕ) (R : ℕ → Record) where
   unfolding largestTimestamp
   largest-turn s t e =
       rw add-one (ap (λ (u : Bool). max (pick u (R s .timestamp) 0) (largestTimestamp s R)) e)
+
+  unused : (s : ℕ) → R s .card ≡ 0 → used (R s) ≡ false
+  unused s z = lt-leb 1 (R s .card) (omega arith)
+
+  in-use : (s : ℕ) → Used (R s) → used (R s) ≡ true
+  in-use s u = le-leb 1 (R s .card) u
+
+  -- what is asked of the record in slot s goes by whether it is used
+  by-use :
+      (s : ℕ) {t : Bool}
+      → used (R s) ≡ t
+      → fits n R s ≡ pick t (sameKind R s && (isFilled (R s) && allLinked n R s)) (isFree (R s))
+  unfolding fits
+  by-use s = ap (λ (t : Bool). pick t (sameKind R s && (isFilled (R s) && allLinked n R s)) (isFree (R s)))
+
+  -- where it does not fit
+  pub free-unfit : (s : ℕ) → R s .card ≡ 0 → isFree (R s) ≡ false → fits n R s ≡ false
+  free-unfit s z e = by-use s (unused s z) ∙ e
+
+  pub record-unfit : (s : ℕ) → Used (R s) → isFilled (R s) && allLinked n R s ≡ false → fits n R s ≡ false
+  record-unfit s u e =
+      by-use s (in-use s u) ∙ ap (λ (t : Bool). sameKind R s && t) e ∙ and-no (sameKind R s)
 
   pub seen-none :
       SeenBefore
@@ -107,26 +142,18 @@ module _ (n : ℕ) (R : ℕ → Record) where
       omega (arith, before .roots, count-most s (isRoot R)),
     )
 
-    -- what is asked of the record in slot s goes by whether it is used
-    by-use :
-        {t : Bool}
-        → used (R s) ≡ t
-        → fits n R s ≡ pick t (sameKind R s && (isFilled (R s) && allLinked n R s)) (isFree (R s))
-    unfolding fits
-    by-use = ap (λ (t : Bool). pick t (sameKind R s && (isFilled (R s) && allLinked n R s)) (isFree (R s)))
-
     -- a record without card
     pub seen-free :
-        (ok : Bool) (low : ℕ)
+        (low : ℕ)
         → R s .card ≡ 0
-        → ok ≡ isFree (R s)
+        → isFree (R s) ≡ true
         → low ≡ min (seen .lowest) s
         → SeenBefore
         n
         R
         (s + 1)
         (record {
-          fit = seen .fit && ok;
+          fit = true;
           kind = seen .kind;
           used = seen .used;
           roots = seen .roots;
@@ -136,13 +163,11 @@ module _ (n : ℕ) (R : ℕ → Record) where
           root = seen .root;
         })
     unfolding kindBefore
-    seen-free ok low z e its-low =
-        let off : used (R s) ≡ false = lt-leb 1 (R s .card) (omega arith) in
+    seen-free low z e its-low =
+        let off : used (R s) ≡ false = unused s z in
         let no-root : isRoot R s ≡ false = ap (λ (t : Bool). t && eqb (R s .parent) noSlot) off in
         record {
-          fit =
-              all-more s (seen .fit) ok (fits n R) (before .fit)
-              (e ∙ sym (by-use off));
+          fit = all-more s true true (fits n R) (before .fit) (sym (by-use s off ∙ e));
           kind = rw add-one (before .kind ∙ sym (ap (λ (t : Bool). pick t (R s .kind) (kindBefore R s)) off));
           used = count-still s (seen .used) (λ a. used (R a)) (before .used) off;
           roots = count-still s (seen .roots) (isRoot R) (before .roots) no-root;
@@ -155,12 +180,31 @@ module _ (n : ℕ) (R : ℕ → Record) where
           root = last-turn (isRoot R) n s (seen .root) false no-root (before .root);
         }
 
-    -- a used record, of which `ok` says whether it fits
+    -- the code's test of the kind says that it is another than the one before
+    other-kind : (own : ℕ) → own ≡ R s .kind → not (eqb (seen .kind) 0) && not (eqb (seen .kind) own) ≡ not (sameKind R s)
+    unfolding sameKind
+    other-kind own its-kind =
+        (λ i. not (eqb (before .kind i) 0) && not (eqb (before .kind i) (its-kind i)))
+        ∙ both-not (eqb (kindBefore R s) 0) (eqb (kindBefore R s) (R s .kind))
+
+    pub kind-unfit :
+        (own : ℕ)
+        → Used (R s)
+        → own ≡ R s .kind
+        → not (eqb (seen .kind) 0) && not (eqb (seen .kind) own) ≡ true
+        → fits n R s ≡ false
+    kind-unfit own u its-kind e =
+        by-use s (in-use s u)
+        ∙ ap (λ (t : Bool). t && (isFilled (R s) && allLinked n R s))
+        (not-true (sameKind R s) (sym (other-kind own its-kind) ∙ e))
+
+    -- a used record that fits
     pub seen-used :
-        (ok : Bool) (own count parent time largest root : ℕ)
+        (own count parent time largest root : ℕ)
         → s < n
         → Used (R s)
-        → ok ≡ (eqb (seen .kind) 0 || eqb (seen .kind) own) && (isFilled (R s) && allLinked n R s)
+        → not (eqb (seen .kind) 0) && not (eqb (seen .kind) own) ≡ false
+        → isFilled (R s) && allLinked n R s ≡ true
         → own ≡ R s .kind
         → count ≡ R s .count
         → parent ≡ R s .parent
@@ -173,7 +217,7 @@ module _ (n : ℕ) (R : ℕ → Record) where
         R
         (s + 1)
         (record {
-          fit = seen .fit && ok;
+          fit = true;
           kind = own;
           used = seen .used + 1;
           roots = seen .roots + boolByte (eqb parent noSlot);
@@ -182,17 +226,13 @@ module _ (n : ℕ) (R : ℕ → Record) where
           largest = largest;
           root = root;
         })
-    unfolding kindBefore sameKind
-    seen-used ok own count parent time largest root b u e its-kind its-count its-parent its-time few its-largest its-root =
-        let on : used (R s) ≡ true = le-leb 1 (R s .card) u in
-        let same : (eqb (seen .kind) 0 || eqb (seen .kind) own) ≡ sameKind R s =
-        (λ i. eqb (before .kind i) 0 || eqb (before .kind i) (its-kind i))
-        ∙ or-implies (eqb (kindBefore R s) 0) (eqb (kindBefore R s) (R s .kind)) in
+    unfolding kindBefore
+    seen-used own count parent time largest root b u k e its-kind its-count its-parent its-time few its-largest its-root =
+        let on : used (R s) ≡ true = in-use s u in
+        let same : sameKind R s ≡ true = not-false (sameKind R s) (sym (other-kind own its-kind) ∙ k) in
         let a-root : isRoot R s ≡ eqb parent noSlot = λ i. on i && eqb (sym its-parent i) noSlot in
         record {
-          fit =
-              all-more s (seen .fit) ok (fits n R) (before .fit)
-              (e ∙ ap (λ (t : Bool). t && (isFilled (R s) && allLinked n R s)) same ∙ sym (by-use on));
+          fit = all-more s true true (fits n R) (before .fit) (sym (by-use s on ∙ (λ i. same i && e i)));
           kind = rw add-one (its-kind ∙ sym (ap (λ (t : Bool). pick t (R s .kind) (kindBefore R s)) on));
           used =
               count-more s (seen .used) 1 (λ a. used (R a)) (before .used)
@@ -209,6 +249,28 @@ module _ (n : ℕ) (R : ℕ → Record) where
           root = rw its-root (last-turn (isRoot R) n s (seen .root) (eqb parent noSlot) a-root (before .root));
         }
 
+-- ---- one look
+
+-- the record in slot s does not fit, or it does and is seen too
+pub record Looked (n : ℕ) (R : ℕ → Record) (s : ℕ) (seen : Seen) : Type 0 where
+  pub misfit : seen .fit ≡ false → (seen ≡ unfit) × (fits n R s ≡ false)
+  pub fitting : seen .fit ≡ true → SeenBefore n R (s + 1) seen
+
+module _ (n : ℕ) (R : ℕ → Record) (s : ℕ) (seen : Seen) where
+  pub looked-unfit : fits n R s ≡ false → seen ≡ unfit → Looked n R s seen
+  looked-unfit e q =
+      record {
+        misfit = λ _. (q, e);
+        fitting = λ t. absurd (false≢true (sym (ap (λ (r : Seen). r .fit) q) ∙ t));
+      }
+
+  pub looked-fit : seen .fit ≡ true → SeenBefore n R (s + 1) seen → Looked n R s seen
+  looked-fit t more =
+      record {
+        misfit = λ e. absurd (false≢true (sym e ∙ t));
+        fitting = λ _. more;
+      }
+
 -- ---- the end of the pass
 
 -- the pass ends with the last record, or with the first that does not fit; `few` keeps the numbers within their types
@@ -218,20 +280,21 @@ pub record Ended (n : ℕ) (R : ℕ → Record) (seen : Seen) : Type 0 where
   pub few : (seen .children ≤ largestByte * n) × (seen .roots ≤ n)
 
 module _ (n : ℕ) (R : ℕ → Record) (seen : Seen) where
-  pub ended-whole : (s : ℕ) → s ≡ n → SeenBefore n R s seen → Ended n R seen
-  ended-whole s e part =
+  pub ended-whole : (s : ℕ) → s ≡ n → seen .fit ≡ true → SeenBefore n R s seen → Ended n R seen
+  ended-whole s e fit part =
       let all : SeenBefore n R n seen = subst (λ (k : ℕ). SeenBefore n R k seen) e part in
       record {
-        fit = all .fit;
+        fit = fit ∙ all .fit;
         whole = λ _. all;
         few = (all .few, seen-most n R n seen all .1);
       }
 
   -- the record in slot s does not fit
-  pub ended-early : (s : ℕ) → s < n → SeenBefore n R (s + 1) seen → seen .fit ≡ false → Ended n R seen
-  ended-early s b part out =
+  pub ended-early : (s : ℕ) → s < n → Looked n R s seen → seen .fit ≡ false → Ended n R seen
+  ended-early s b looked out =
+      let none = looked .misfit out in
       record {
-        fit = out ∙ sym (all-short (s + 1) n (fits n R) (omega arith) (sym (part .fit) ∙ out));
+        fit = out ∙ sym (all-fails n (fits n R) s b (none .1));
         whole = λ e. absurd (false≢true (sym out ∙ e));
-        few = (omega (arith, part .few), omega (arith, seen-most n R (s + 1) seen part .1));
+        few = rw (none .0) (omega arith, omega arith);
       }
