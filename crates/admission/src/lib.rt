@@ -61,14 +61,6 @@ fn formed(t: &[u8], n: usize, seen: Seen) -> bool
     }
 }
 
-// Are the first n records of `t` a well-formed table?
-pub fn well_formed(t: &[u8], n: usize) -> bool
-    requires { ⌜ StandTo (now t) n × (n ≤ mostRecords) ⌝ }
-    ensures { λ r. ⌜ r ≡ wellFormed n (recordOf (now (t .entry))) ⌝ }
-{
-    formed(t, n, links::links(t, n))
-}
-
 // Judges the table, and answers what calls ask of it: one pass over the records, and their keys told apart.
 pub fn admit(t: &[u8]) -> Admitted
     ensures { λ r. ⌜ Admits (now (t .entry)) r ⌝ }

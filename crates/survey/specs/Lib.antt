@@ -1,6 +1,5 @@
--- The small questions that the calls ask of a table: the answers, what they say of the records, and the one pass.
+-- The small questions that the calls ask of a table: the answers, and what they say of the records.
 pub mod Survey
 pub mod First
 pub mod Laws
 pub mod Answers
-pub mod Pass
