@@ -44,7 +44,8 @@ module _ (r : Record) (time kind count : ℕ)
       go true e =
           let f = filled-decided r .shows (and-left (isFilled r) linked e) in
           let timed : eqb time 0 ≡ false = ne-eqb time 0 (λ z. omega (arith, f .timestamp-from-1)) in
-          let known : not (knownKind kind) ≡ false = ap (λ (k : ℕ). not (knownKind k)) its-kind ∙ ap not (f .kind-known) in
+          let known : not (knownKind kind) ≡ false =
+          ap (λ (k : ℕ). not (knownKind k)) its-kind ∙ ap not (f .kind-known) in
           let few : ltb mostChildren count ≡ false = le-ltb mostChildren count (omega (arith, f .count-to-8)) in
           sym (λ i. (timed i || known i) || few i) ∙ t
       go false e = refl

@@ -47,8 +47,8 @@ fn last_floors() -> [u64; 9]
     ]
 }
 
-// Are the child slots past the count 65,535? Four at a time and by a row of floors, so that the count is no loop's end and
-// decides no branch, which would be hard to predict.
+// Are the child slots past the count 65,535? Four at a time and by a row of floors, so that the count is no loop's
+// end and decides no branch, which would be hard to predict.
 fn past_ok(t: &[u8], s: usize, count: usize, first: &[u64; 9], last: &[u64; 9]) -> bool
     requires { ⌜ Stands (now t) s × (count ≡ recordOf (now t) s .count) × (count ≤ mostChildren) ⌝ }
     requires { ⌜ (now first ≡ firstFloors) × (now last ≡ lastFloors) ⌝ }
@@ -154,8 +154,8 @@ fn misfit() -> Seen
     }
 }
 
-// What the pass has seen, with the record in slot s besides. A record that does not fit ends it at once, so that no number
-// has to be kept for it.
+// What the pass has seen, with the record in slot s besides. A record that does not fit ends it at once, so that no
+// number has to be kept for it.
 fn look(t: &[u8], n: usize, s: usize, seen: Seen, first: &[u64; 9], last: &[u64; 9]) -> Seen
     requires { ⌜ (now first ≡ firstFloors) × (now last ≡ lastFloors) ⌝ }
     requires { ⌜ StandTo (now t) n × (n ≤ mostRecords) × (s < n) × SeenBefore n (recordOf (now t)) s seen ⌝ }
@@ -198,7 +198,8 @@ fn look(t: &[u8], n: usize, s: usize, seen: Seen, first: &[u64; 9], last: &[u64;
     }
 }
 
-// The whole pass, up to the first record that does not fit. At each turn it has seen the records before s, and they fit.
+// The whole pass, up to the first record that does not fit. At each turn it has seen the records before s, and they
+// fit.
 pub fn links(t: &[u8], n: usize) -> Seen
     requires { ⌜ StandTo (now t) n × (n ≤ mostRecords) ⌝ }
     ensures { λ r. ⌜ Ended n (recordOf (now (t .entry))) r ⌝ }

@@ -62,7 +62,9 @@ returns c =
     let known = one .before .before .shared-slice-known .given in
     (λ i.
     leb (first-floor b i) (one .four-slots .ensures i) && leb (last-floor b i) (c .four-slots2 .ensures i))
-    ∙ past-told r (slots-fit (b .args .t .now) (b .args .s) (λ i. omega (arith, known i))) (omega (arith, b .pre .0 .1, b .pre .0 .2))
+    ∙ past-told r
+    (slots-fit (b .args .t .now) (b .args .s) (λ i. omega (arith, known i)))
+    (omega (arith, b .pre .0 .1, b .pre .0 .2))
 
 pub past-ok-spec : {M : Type 1} → statement M
 past-ok-spec =

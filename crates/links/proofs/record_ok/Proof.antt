@@ -34,7 +34,8 @@ tested :
     → (eqb (time c) 0 || not (c .known-kind .result)) || ltb mostChildren (start c .args .count) ≡ t
     → unfilled (time c) (start c .args .kind) (start c .args .count) ≡ t
 tested c t e =
-    sym (ap (λ (k : Bool). (eqb (time c) 0 || not k) || ltb mostChildren (start c .args .count)) (c .known-kind .ensures))
+    sym
+    (ap (λ (k : Bool). (eqb (time c) 0 || not k) || ltb mostChildren (start c .args .count)) (c .known-kind .ensures))
     ∙ e
 
 fields : (c : tie.Else1) → Plain (time (c .before)) (start (c .before) .args .kind) (start (c .before) .args .count)
@@ -59,7 +60,11 @@ returns c =
 past-ok-requires : tie.Need-past-ok-requires
 past-ok-requires c κs =
     let b = start (c .before) in (
-      (stands-below (b .args .t .now) (b .args .n) (b .args .s) (b .pre .1 .0) (b .pre .1 .1), b .pre .1 .4, fields c .few),
+      (
+        stands-below (b .args .t .now) (b .args .n) (b .args .s) (b .pre .1 .0) (b .pre .1 .1),
+        b .pre .1 .4,
+        fields c .few,
+      ),
       b .pre .0,
     )
 

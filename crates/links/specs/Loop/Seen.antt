@@ -181,7 +181,10 @@ module _ (n : ℕ) (R : ℕ → Record) where
         }
 
     -- the code's test of the kind says that it is another than the one before
-    other-kind : (own : ℕ) → own ≡ R s .kind → not (eqb (seen .kind) 0) && not (eqb (seen .kind) own) ≡ not (sameKind R s)
+    other-kind :
+        (own : ℕ)
+        → own ≡ R s .kind
+        → not (eqb (seen .kind) 0) && not (eqb (seen .kind) own) ≡ not (sameKind R s)
     unfolding sameKind
     other-kind own its-kind =
         (λ i. not (eqb (before .kind i) 0) && not (eqb (before .kind i) (its-kind i)))
@@ -227,13 +230,13 @@ module _ (n : ℕ) (R : ℕ → Record) where
           root = root;
         })
     unfolding kindBefore
-    seen-used own count parent time largest root b u k e its-kind its-count its-parent its-time few its-largest its-root =
+    seen-used own count parent time largest root b u k e own-is count-is parent-is time-is few largest-is root-is =
         let on : used (R s) ≡ true = in-use s u in
-        let same : sameKind R s ≡ true = not-false (sameKind R s) (sym (other-kind own its-kind) ∙ k) in
-        let a-root : isRoot R s ≡ eqb parent noSlot = λ i. on i && eqb (sym its-parent i) noSlot in
+        let same : sameKind R s ≡ true = not-false (sameKind R s) (sym (other-kind own own-is) ∙ k) in
+        let a-root : isRoot R s ≡ eqb parent noSlot = λ i. on i && eqb (sym parent-is i) noSlot in
         record {
           fit = all-more s true true (fits n R) (before .fit) (sym (by-use s on ∙ (λ i. same i && e i)));
-          kind = rw add-one (its-kind ∙ sym (ap (λ (t : Bool). pick t (R s .kind) (kindBefore R s)) on));
+          kind = rw add-one (own-is ∙ sym (ap (λ (t : Bool). pick t (R s .kind) (kindBefore R s)) on));
           used =
               count-more s (seen .used) 1 (λ a. used (R a)) (before .used)
               (sym (ap (λ (t : Bool). pick {A = ℕ} t 1 0) on));
@@ -242,11 +245,11 @@ module _ (n : ℕ) (R : ℕ → Record) where
               (byte-pick (eqb parent noSlot) ∙ ap (λ (t : Bool). pick {A = ℕ} t 1 0) (sym a-root));
           children =
               sum-more s (seen .children) count (λ a. pick (used (R a)) (R a .count) 0) (before .children)
-              (its-count ∙ sym (ap (λ (t : Bool). pick t (R s .count) 0) on));
+              (count-is ∙ sym (ap (λ (t : Bool). pick t (R s .count) 0) on));
           few = omega (arith, before .few);
           lowest = first-still (isEmpty R) n s (seen .lowest) b (ap not on) (before .lowest);
           largest = omega (arith, before .largest, largest-turn s true on);
-          root = rw its-root (last-turn (isRoot R) n s (seen .root) (eqb parent noSlot) a-root (before .root));
+          root = rw root-is (last-turn (isRoot R) n s (seen .root) (eqb parent noSlot) a-root (before .root));
         }
 
 -- ---- one look

@@ -96,7 +96,7 @@ module _ (l : List ℕ) (p v : ℕ) (stands : Stands l p) where
       (omega (arith, count, h .some, h .to-8)) (omega arith) in
       let ended = became-by (then-with (λ q. withSlot q (n - 1) noSlot) closed first) refl e in
       let second = put-count m p (stands-same l m (ended .same-length) p stands) (n - 1)
-          (omega (arith, count, h .to-8)) in
+      (omega (arith, count, h .to-8)) in
       became-by
       (then-with (λ q. withCount q (n - 1)) ended second)
       (ap (λ (j : ℕ). withCount (withSlot (withSlots r (closing v (r .slots) j)) (j - 1) noSlot) (j - 1)) count

@@ -41,8 +41,7 @@ loop-again : tie.Need-loop-again Inv-loop μ-loop
 loop-again c =
     let l = c .before .before .loop in
     let keys = c .before .before .before .args .keys .now in
-    let h = c .before .loop-test .taken in
-    (
+    let h = c .before .loop-test .taken in (
       omega (arith, h),
       length-set (l .marks) (slotIn (getD keys (l .i) 0)) 1 ∙ l .inv .1,
       marked-more keys (l .marks) (l .i) h ∙ l .inv .2,
