@@ -138,19 +138,20 @@ fn one_of(test: bool, a: usize, b: usize) -> usize
     if test { a } else { b }
 }
 
-// What is told where a record does not fit.
-fn misfit() -> Seen
-    ensures { λ r. ⌜ r ≡ unfit ⌝ }
+// What is told where a record does not fit. All else stays as it was: numbers of their own would be made ready before
+// each test, for an end that hardly comes.
+fn misfit(seen: Seen) -> Seen
+    ensures { λ r. ⌜ r ≡ unfit seen ⌝ }
 {
     Seen {
         fit: false,
-        kind: 0,
-        used: 0,
-        roots: 0,
-        children: 0,
-        lowest: 0,
-        largest: 0,
-        root: 0,
+        kind: seen.kind,
+        used: seen.used,
+        roots: seen.roots,
+        children: seen.children,
+        lowest: seen.lowest,
+        largest: seen.largest,
+        root: seen.root,
     }
 }
 
@@ -163,7 +164,7 @@ fn look(t: &[u8], n: usize, s: usize, seen: Seen, first: &[u64; 9], last: &[u64;
 {
     if table::card_of(t, s) == 0 {
         if !table::is_free(t, s) {
-            return misfit();
+            return misfit(seen);
         }
         return Seen {
             fit: true,
@@ -180,10 +181,10 @@ fn look(t: &[u8], n: usize, s: usize, seen: Seen, first: &[u64; 9], last: &[u64;
     let count = table::count_of(t, s);
     let timestamp = table::timestamp_of(t, s);
     if (seen.kind != 0) & (seen.kind != kind) {
-        return misfit();
+        return misfit(seen);
     }
     if !record_ok(t, n, s, kind, count, timestamp, first, last) {
-        return misfit();
+        return misfit(seen);
     }
     let root = table::parent_of(t, s) == NO_SLOT;
     Seen {

@@ -37,10 +37,19 @@ largestByte = 255
 abbrev pub isEmpty : (ℕ → Record) → ℕ → Bool
 isEmpty R s = not (used (R s))
 
--- what is told where a record does not fit
-abbrev pub unfit : Seen
-unfit =
-    record { fit = false; kind = 0; used = 0; roots = 0; children = 0; lowest = 0; largest = 0; root = 0 }
+-- what is told where a record does not fit: all else stays, since nobody asks for it
+abbrev pub unfit : Seen → Seen
+unfit seen =
+    record {
+      fit = false;
+      kind = seen .kind;
+      used = seen .used;
+      roots = seen .roots;
+      children = seen .children;
+      lowest = seen .lowest;
+      largest = seen .largest;
+      root = seen .root;
+    }
 
 -- the records before s fit; `few` is what keeps the sum of child counts within its type
 pub record SeenBefore (n : ℕ) (R : ℕ → Record) (s : ℕ) (seen : Seen) : Type 0 where
@@ -256,14 +265,20 @@ module _ (n : ℕ) (R : ℕ → Record) where
 
 -- the record in slot s does not fit, or it does and is seen too
 pub record Looked (n : ℕ) (R : ℕ → Record) (s : ℕ) (seen : Seen) : Type 0 where
-  pub misfit : seen .fit ≡ false → (seen ≡ unfit) × (fits n R s ≡ false)
+  pub misfit :
+      seen .fit ≡ false → ((seen .children ≤ largestByte * n) × (seen .roots ≤ n)) × (fits n R s ≡ false)
   pub fitting : seen .fit ≡ true → SeenBefore n R (s + 1) seen
 
 module _ (n : ℕ) (R : ℕ → Record) (s : ℕ) (seen : Seen) where
-  pub looked-unfit : fits n R s ≡ false → seen ≡ unfit → Looked n R s seen
-  looked-unfit e q =
+  pub looked-unfit :
+      (before : Seen) → s < n → SeenBefore n R s before → fits n R s ≡ false → seen ≡ unfit before → Looked n R s seen
+  looked-unfit before b was e q =
+      let children : seen .children ≡ before .children = ap (λ (r : Seen). r .children) q in
+      let roots : seen .roots ≡ before .roots = ap (λ (r : Seen). r .roots) q in
+      let few : (seen .children ≤ largestByte * n) × (seen .roots ≤ n) =
+      (omega (arith, children, was .few, b), omega (arith, roots, seen-most n R s before was .1, b)) in
       record {
-        misfit = λ _. (q, e);
+        misfit = λ _. (few, e);
         fitting = λ t. absurd (false≢true (sym (ap (λ (r : Seen). r .fit) q) ∙ t));
       }
 
@@ -299,5 +314,5 @@ module _ (n : ℕ) (R : ℕ → Record) (seen : Seen) where
       record {
         fit = out ∙ sym (all-fails n (fits n R) s b (none .1));
         whole = λ e. absurd (false≢true (sym out ∙ e));
-        few = rw (none .0) (omega arith, omega arith);
+        few = none .0;
       }
