@@ -15,7 +15,7 @@ use Rattle.places.specs.Cases.{below-or}
 use Rattle.table.specs.Record.{Record, Used, used, noSlot}
 use Rattle.judge.specs.WellFormed.{WellFormed, ifAny, isRoot, wellFormed}
 use Rattle.judge.specs.Decided.{formed-decided}
-use Rattle.judge.specs.Counted.{kindBefore, fits, agree, counted}
+use Rattle.judge.specs.Counted.{kindBefore, usedCount, fits, agree, counted}
 use Rattle.judge.specs.Counting.{counted-same, kind-none, kind-all}
 use Rattle.survey.specs.Survey.{firstFrom, usedIn, lowestFree, rootOf, kindOf}
 use Rattle.survey.specs.First.{first-from}
@@ -41,8 +41,9 @@ module _ (n : ℕ) (R : ℕ → Record) (small : n ≤ noSlot) (seen : Seen) (en
   unfolding agree
   passed-agree e =
       let all = end .whole e in
+      let all-used : seen .used ≡ usedCount n R = omega (arith, all .used) in
       λ i.
-      eqb (all .roots i) (ifAny (all .used i)) && eqb (all .children i + all .roots i) (all .used i)
+      eqb (all .roots i) (ifAny (all-used i)) && eqb (all .children i + all .roots i) (all-used i)
 
   module _ (ok : Bool) (numbers : ok ≡ numbersAgree seen) where
     looked : seen .fit && ok ≡ allTo n (fits n R) && agree n R
@@ -131,7 +132,7 @@ module _ (n : ℕ) (R : ℕ → Record) (seen : Seen) (end : Ended n R seen) (ye
       let all = formed-whole small in
       let wf = formed-decided n R .shows yes′ in
       record {
-        used = all .used;
+        used = omega (arith, all .used);
         lowest = first-end (isEmpty R) n (seen .lowest) (all .lowest);
         largest = all .largest;
         root = last-end (isRoot R) n (seen .root) (one-root n R wf) (all .root);

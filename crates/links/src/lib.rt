@@ -107,8 +107,9 @@ fn record_ok(
 }
 
 // What a pass has seen of the records before a slot: whether all of them fit, the kind of the last used one, how many
-// are used, how many are roots, how many children they count; and for the calls the lowest free slot, the largest
-// timestamp and the slot of the last root. A slot that is not found is the number of records, and so past the last.
+// of all records were not found free, how many are roots, how many children they count; and for the calls the lowest
+// free slot, the largest timestamp and the slot of the last root. A slot that is not found is the number of records,
+// and so past the last.
 pub struct Seen {
     pub fit: bool,
     pub kind: u8,
@@ -169,7 +170,7 @@ fn look(t: &[u8], n: usize, s: usize, seen: Seen, first: &[u64; 9], last: &[u64;
         return Seen {
             fit: true,
             kind: seen.kind,
-            used: seen.used,
+            used: seen.used - 1,
             roots: seen.roots,
             children: seen.children,
             lowest: earlier(seen.lowest, s),
@@ -190,7 +191,7 @@ fn look(t: &[u8], n: usize, s: usize, seen: Seen, first: &[u64; 9], last: &[u64;
     Seen {
         fit: true,
         kind,
-        used: seen.used + 1,
+        used: seen.used,
         roots: seen.roots + root as usize,
         children: seen.children + count as usize,
         lowest: seen.lowest,
@@ -210,7 +211,7 @@ pub fn links(t: &[u8], n: usize) -> Seen
     let mut seen = Seen {
         fit: true,
         kind: 0,
-        used: 0,
+        used: n,
         roots: 0,
         children: 0,
         lowest: n,

@@ -8,6 +8,7 @@ use Rattle.table.specs.Record.{Record, Used, recordOf, noSlot}
 use Rattle.table.specs.Stands.{Stands, stands-below}
 use Rattle.links.specs.Loop.Seen.{
   seen-most,
+  seen-left,
   seen-free,
   seen-used,
   free-unfit,
@@ -52,8 +53,8 @@ here b = stands-below (b .args .t .now) (b .args .n) (b .args .s) (b .pre .1 .0)
 in-use : (c : tie.Else1) → Used (records (start (c .before)) (start (c .before) .args .s))
 in-use c = omega (arith, c .before .card-of .ensures, c .if1 .left)
 
--- no number is more than the slots before s
-most : (b : tie.Start) → (b .args .seen .used ≤ b .args .s) × (b .args .seen .roots ≤ b .args .s)
+-- no more are roots than the slots before s
+most : (b : tie.Start) → b .args .seen .roots ≤ b .args .s
 most b = seen-most (b .args .n) (records b) (b .args .s) (b .args .seen) (b .pre .1 .3)
 
 -- ---- needs
@@ -78,20 +79,26 @@ returns c =
     (sym free ∙ not-true (read .is-free .result) (c .before .if2 .taken)))
     (c .misfit .ensures)
 
+sub-t15 : tie.Need-sub-t15
+sub-t15 c =
+    let b = start (c .before .before .before .before) in
+    seen-left (b .args .n) (records b) (b .args .s) (b .args .seen) (b .pre .1 .3) (b .pre .1 .2)
+
 earlier-requires : tie.Need-earlier-requires
 earlier-requires c κs = search needs
 
 returns-2 : tie.Need-returns-2
 returns-2 c =
-    let read = c .before .before in
+    let read = c .before .before .before in
     let b = start (read .before .before) in
     let free = told (b .args .t .now) (b .args .s) (read .is-free .result) (read .is-free .ensures) in
     let none = sym (read .before .before .card-of .ensures) ∙ read .before .if1 .taken in
     looked-fit (b .args .n) (records b) (b .args .s) _ refl
     (seen-free (b .args .n) (records b) (b .args .s) (b .args .seen) (b .pre .1 .3)
     (c .earlier .result)
+    (b .pre .1 .2)
     none
-    (sym free ∙ not-false (read .is-free .result) (c .before .if2 .left))
+    (sym free ∙ not-false (read .is-free .result) (c .before .before .if2 .left))
     (c .earlier .ensures))
 
 kind-of-requires : tie.Need-kind-of-requires
@@ -141,26 +148,21 @@ returns-4 c =
 parent-of-requires : tie.Need-parent-of-requires
 parent-of-requires c κs = here (start (carded (timed (c .before .before))))
 
-add-t19 : tie.Need-add-t19
-add-t19 c =
-    let b = start (carded (timed (like (c .before)))) in
-    omega (arith, most b .0, b .pre .1 .1, b .pre .1 .2)
-
 cast-t20 : tie.Need-cast-t20
 cast-t20 c = search needs
 
 add-t21 : tie.Need-add-t21
 add-t21 c =
-    let hung = c .before .before in
+    let hung = c .before in
     let b = start (carded (timed (like hung))) in
-    omega (arith, most b .1, b .pre .1 .1, b .pre .1 .2, byte-most (eqb (hung .parent-of .result) noSlot))
+    omega (arith, most b, b .pre .1 .1, b .pre .1 .2, byte-most (eqb (hung .parent-of .result) noSlot))
 
 cast-t22 : tie.Need-cast-t22
 cast-t22 c = search needs
 
 add-t23 : tie.Need-add-t23
 add-t23 c =
-    let hung = c .before .before .before in
+    let hung = c .before .before in
     let read = timed (like hung) in
     let b = start (carded read) in
     omega (arith, b .pre .1 .3 .few, b .pre .1 .1, b .pre .1 .2, read .before .count-of .ok)
@@ -174,7 +176,7 @@ one-of-requires c κs = search needs
 returns-5 : tie.Need-returns-5
 returns-5 c =
     let larger = c .before in
-    let hung = larger .before .before .before .before in
+    let hung = larger .before .before .before in
     let read = timed (like hung) in
     let b = start (carded read) in
     let tested = hung .before .before in
@@ -206,6 +208,7 @@ look-spec =
     is-free-requires
     misfit-requires
     returns
+    sub-t15
     earlier-requires
     returns-2
     kind-of-requires
@@ -217,7 +220,6 @@ look-spec =
     misfit-requires-3
     returns-4
     parent-of-requires
-    add-t19
     cast-t20
     add-t21
     cast-t22

@@ -1,5 +1,5 @@
 -- Loop: what the pass has seen of the records before slot s, and how the record in slot s adds to it. Assumes nothing.
-use Prim.Native.Nat.{ℕ, _+_, _*_, _≤_, _<_, min, max}
+use Prim.Native.Nat.{ℕ, _+_, _-_, _*_, _≤_, _<_, min, max}
 use mathlib.Core.Path.{_≡_, refl, sym, ap, _∙_, subst}
 use mathlib.Core.Bool.{Bool, true, false, _&&_, not, false≢true}
 use mathlib.Core.List.{List}
@@ -51,11 +51,12 @@ unfit seen =
       root = seen .root;
     }
 
--- the records before s fit; `few` is what keeps the sum of child counts within its type
+-- the records before s fit; `used` counts those from s on too, until they are found free; `few` is what keeps the sum of
+-- child counts within its type
 pub record SeenBefore (n : ℕ) (R : ℕ → Record) (s : ℕ) (seen : Seen) : Type 0 where
   pub fit : true ≡ allTo s (fits n R)
   pub kind : seen .kind ≡ kindBefore R s
-  pub used : seen .used ≡ usedCount s R
+  pub used : seen .used + s ≡ usedCount s R + n
   pub roots : seen .roots ≡ rootCount s R
   pub children : seen .children ≡ childCount s R
   pub few : seen .children ≤ largestByte * s
@@ -123,7 +124,7 @@ module _ (n : ℕ) (R : ℕ → Record) where
       (record {
         fit = true;
         kind = 0;
-        used = 0;
+        used = n;
         roots = 0;
         children = 0;
         lowest = n;
@@ -135,7 +136,7 @@ module _ (n : ℕ) (R : ℕ → Record) where
       record {
         fit = all-none (fits n R);
         kind = refl;
-        used = refl;
+        used = omega arith;
         roots = refl;
         children = refl;
         few = omega arith;
@@ -145,15 +146,17 @@ module _ (n : ℕ) (R : ℕ → Record) where
       }
 
   module _ (s : ℕ) (seen : Seen) (before : SeenBefore n R s seen) where
-    pub seen-most : (seen .used ≤ s) × (seen .roots ≤ s)
-    seen-most = (
-      omega (arith, before .used, count-most s (λ a. used (R a))),
-      omega (arith, before .roots, count-most s (isRoot R)),
-    )
+    pub seen-most : seen .roots ≤ s
+    seen-most = omega (arith, before .roots, count-most s (isRoot R))
+
+    -- the record in slot s is counted still
+    pub seen-left : s < n → 1 ≤ seen .used
+    seen-left b = omega (arith, before .used)
 
     -- a record without card
     pub seen-free :
         (low : ℕ)
+        → s < n
         → R s .card ≡ 0
         → isFree (R s) ≡ true
         → low ≡ min (seen .lowest) s
@@ -164,7 +167,7 @@ module _ (n : ℕ) (R : ℕ → Record) where
         (record {
           fit = true;
           kind = seen .kind;
-          used = seen .used;
+          used = seen .used - 1;
           roots = seen .roots;
           children = seen .children;
           lowest = low;
@@ -172,13 +175,19 @@ module _ (n : ℕ) (R : ℕ → Record) where
           root = seen .root;
         })
     unfolding kindBefore
-    seen-free low z e its-low =
+    seen-free low b z e its-low =
         let off : used (R s) ≡ false = unused s z in
         let no-root : isRoot R s ≡ false = ap (λ (t : Bool). t && eqb (R s .parent) noSlot) off in
         record {
           fit = all-more s true true (fits n R) (before .fit) (sym (by-use s off ∙ e));
           kind = rw add-one (before .kind ∙ sym (ap (λ (t : Bool). pick t (R s .kind) (kindBefore R s)) off));
-          used = count-still s (seen .used) (λ a. used (R a)) (before .used) off;
+          used =
+              omega (
+                arith,
+                before .used,
+                seen-left b,
+                count-still s (usedCount s R) (λ a. used (R a)) refl off,
+              );
           roots = count-still s (seen .roots) (isRoot R) (before .roots) no-root;
           children =
               sum-still s (seen .children) (λ a. pick (used (R a)) (R a .count) 0) (before .children)
@@ -231,7 +240,7 @@ module _ (n : ℕ) (R : ℕ → Record) where
         (record {
           fit = true;
           kind = own;
-          used = seen .used + 1;
+          used = seen .used;
           roots = seen .roots + boolByte (eqb parent noSlot);
           children = seen .children + count;
           lowest = seen .lowest;
@@ -247,8 +256,11 @@ module _ (n : ℕ) (R : ℕ → Record) where
           fit = all-more s true true (fits n R) (before .fit) (sym (by-use s on ∙ (λ i. same i && e i)));
           kind = rw add-one (own-is ∙ sym (ap (λ (t : Bool). pick t (R s .kind) (kindBefore R s)) on));
           used =
-              count-more s (seen .used) 1 (λ a. used (R a)) (before .used)
-              (sym (ap (λ (t : Bool). pick {A = ℕ} t 1 0) on));
+              omega (
+                arith,
+                before .used,
+                count-more s (usedCount s R) 1 (λ a. used (R a)) refl (sym (ap (λ (t : Bool). pick {A = ℕ} t 1 0) on)),
+              );
           roots =
               count-more s (seen .roots) (boolByte (eqb parent noSlot)) (isRoot R) (before .roots)
               (byte-pick (eqb parent noSlot) ∙ ap (λ (t : Bool). pick {A = ℕ} t 1 0) (sym a-root));
@@ -276,7 +288,7 @@ module _ (n : ℕ) (R : ℕ → Record) (s : ℕ) (seen : Seen) where
       let children : seen .children ≡ before .children = ap (λ (r : Seen). r .children) q in
       let roots : seen .roots ≡ before .roots = ap (λ (r : Seen). r .roots) q in
       let few : (seen .children ≤ largestByte * n) × (seen .roots ≤ n) =
-      (omega (arith, children, was .few, b), omega (arith, roots, seen-most n R s before was .1, b)) in
+      (omega (arith, children, was .few, b), omega (arith, roots, seen-most n R s before was, b)) in
       record {
         misfit = λ _. (few, e);
         fitting = λ t. absurd (false≢true (sym (ap (λ (r : Seen). r .fit) q) ∙ t));
@@ -304,7 +316,7 @@ module _ (n : ℕ) (R : ℕ → Record) (seen : Seen) where
       record {
         fit = fit ∙ all .fit;
         whole = λ _. all;
-        few = (all .few, seen-most n R n seen all .1);
+        few = (all .few, seen-most n R n seen all);
       }
 
   -- the record in slot s does not fit
