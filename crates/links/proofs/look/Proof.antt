@@ -74,7 +74,8 @@ returns c =
     let b = start (read .before .before) in
     let free = told (b .args .t .now) (b .args .s) (read .is-free .result) (read .is-free .ensures) in
     let none = sym (read .before .before .card-of .ensures) ∙ read .before .if1 .taken in
-    looked-unfit (b .args .n) (records b) (b .args .s) (c .misfit .result) (b .args .seen) (b .pre .1 .2) (b .pre .1 .3)
+    looked-unfit (b .args .n) (records b) (b .args .s) (c .misfit .result)
+    (b .args .seen) (b .pre .1 .2) (b .pre .1 .3)
     (free-unfit (b .args .n) (records b) (b .args .s) none
     (sym free ∙ not-true (read .is-free .result) (c .before .if2 .taken)))
     (c .misfit .ensures)
@@ -118,7 +119,8 @@ returns-3 c =
     let read = c .before .before .before .before in
     let b = start (carded read) in
     let kind = kinded read .kind-of in
-    looked-unfit (b .args .n) (records b) (b .args .s) (c .misfit2 .result) (b .args .seen) (b .pre .1 .2) (b .pre .1 .3)
+    looked-unfit (b .args .n) (records b) (b .args .s) (c .misfit2 .result)
+    (b .args .seen) (b .pre .1 .2) (b .pre .1 .3)
     (kind-unfit (b .args .n) (records b) (b .args .s) (b .args .seen) (b .pre .1 .3)
     (kind .result) (in-use (kinded read .before)) (kind .ensures) (c .before .if3 .taken))
     (c .misfit2 .ensures)
@@ -140,7 +142,8 @@ returns-4 c =
     let tested = c .before .before in
     let read = timed (tested .before) in
     let b = start (carded read) in
-    looked-unfit (b .args .n) (records b) (b .args .s) (c .misfit3 .result) (b .args .seen) (b .pre .1 .2) (b .pre .1 .3)
+    looked-unfit (b .args .n) (records b) (b .args .s) (c .misfit3 .result)
+    (b .args .seen) (b .pre .1 .2) (b .pre .1 .3)
     (record-unfit (b .args .n) (records b) (b .args .s) (in-use (kinded read .before))
     (sym (tested .record-ok .ensures) ∙ not-true (tested .record-ok .result) (c .before .if4 .taken)))
     (c .misfit3 .ensures)

@@ -51,8 +51,8 @@ unfit seen =
       root = seen .root;
     }
 
--- the records before s fit; `used` counts those from s on too, until they are found free; `few` is what keeps the sum of
--- child counts within its type
+-- the records before s fit; `used` counts those from s on too, until they are found free; `few` is what keeps the sum
+-- of child counts within its type
 pub record SeenBefore (n : ℕ) (R : ℕ → Record) (s : ℕ) (seen : Seen) : Type 0 where
   pub fit : true ≡ allTo s (fits n R)
   pub kind : seen .kind ≡ kindBefore R s
