@@ -1,8 +1,9 @@
 #!/usr/bin/env bash
 # Counts what the house does not want, and fails where a count is above what tools/limits.txt allows: the record's
 # length written out of its place, long paths in proofs, wide lines, files without a head. It also sees that every
-# must-fail edit which docs/PROMISES.md names is there, and that no crate with a public function is without one. Long
-# bodies and long files are only told. It takes seconds and proves nothing.
+# must-fail edit which docs/PROMISES.md names is there, that no crate with a public function is without one, and that
+# crates.txt lists for a crate just what its files name. Long bodies and long files are only told. It takes seconds and
+# proves nothing.
 set -u
 cd "$(dirname "$0")/.."
 export LC_ALL=C.UTF-8 # a character is a character, not a byte
@@ -145,6 +146,27 @@ edits_everywhere() {
     fi
 }
 
+# The crates that a crate's files name, in code, contracts, specs and proofs.
+names_in() { # CRATE
+    find "crates/$1" -name must-fail -prune -o -type f \( -name '*.rt' -o -name '*.antt' \) -print |
+        xargs sed -E 's@(^|[[:space:]])(--|//).*@@' | grep -oE 'Rattle·[a-z_]+|\b[a-z_]+::' |
+        sed -E 's/^Rattle·//; s/::$//' | grep -vx "$1" | sort -u
+}
+
+names_listed() {
+    local crate deps known wrong=''
+    known=$( (sed -nE 's/^([a-z_]+):.*/\1/p' crates.txt && printf 'io\nlibc\nos\nbytes\ncheck\n') | sort)
+    while IFS=: read -r crate deps; do
+        deps=$(printf '%s\n' ${deps%%#*} | sort)
+        [ "$deps" = "$(comm -12 <(names_in "$crate") <(printf '%s\n' "$known"))" ] || wrong="$wrong $crate"
+    done < <(grep -E '^[a-z_]+:' crates.txt)
+    if [ -n "$wrong" ]; then
+        ok false "crates.txt lists other crates than the files name, for:$wrong"
+    else
+        ok true "crates.txt lists for each crate those that its files name"
+    fi
+}
+
 count record-length "lines with a product or a sum of the record's length outside its layout" record_length
 count long-paths "paths of more than four .before in a proof" long_paths
 count wide-lines "lines of more than 120 characters" wide_lines
@@ -154,5 +176,6 @@ told "definitions and proofs of more than $long_body lines" long_definitions
 told "files of more than $long_file lines" long_files
 edits_named
 edits_everywhere
+names_listed
 echo "$passed passed, $failed failed"
 [ "$failed" -eq 0 ]

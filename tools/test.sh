@@ -6,6 +6,8 @@
 set -u
 cd "$(dirname "$0")/.."
 passed=0 failed=0
+# rt waits for a whole batch before it begins the next: twice as many as there are cores keep them busy to its end.
+export RT_JOBS=${RT_JOBS:-$((2 * $(nproc)))}
 
 say() { printf '\n== %s\n' "$*"; }
 

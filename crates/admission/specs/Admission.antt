@@ -15,6 +15,7 @@ use Rattle.table.specs.Table.{rightSize, recordsIn}
 use Rattle.table.specs.Stands.{right-are}
 use Rattle.table.specs.Same.{past-are}
 use Rattle.judge.specs.WellFormed.{wellFormed}
+use Rattle.judge.specs.Readable.{Readable}
 use Rattle.survey.specs.declared.Findings.{Findings}
 use Rattle.survey.specs.Answers.{Answers, found}
 use Rattle.admission.specs.declared.Admitted.{Admitted}
@@ -35,11 +36,6 @@ pub record Admits (l : List ℕ) (r : Admitted) : Type 0 where
   pub silent : (r .refusal ≡ done → ⊥) → r .found ≡ nothing
 
 -- ---- a table that is admitted
-
--- the bytes of a table of the right size that is well formed
-pub record Readable (l : List ℕ) : Type 0 where
-  pub size : rightSize (length l) ≡ true
-  pub formed : wellFormed (recordsIn l) (recordOf l) ≡ true
 
 pub admitted-readable : (l : List ℕ) → firstOf (admissionTests l) ≡ done → Readable l
 admitted-readable l e =

@@ -10,7 +10,9 @@ use Rattle.places.specs.Choice.{and-right}
 use Rattle.distance.specs.Kind.{knownKind}
 use Rattle.refusals.specs.Limits.{signatureLength}
 use Rattle.table.specs.Record.{Record}
+use Rattle.survey.specs.declared.Findings.{Findings}
 use Rattle.survey.specs.Survey.{usedIn, kindOf}
+use Rattle.survey.specs.Answers.{Answers}
 
 -- "3, ARGUMENT: .. kind not 1 or 2, or signature not 32 bytes": the kind and the signature's bytes s are none of these
 abbrev pub knownQuery : ℕ → List ℕ → Bool
@@ -19,6 +21,15 @@ knownQuery kind s = knownKind kind && eqb (length s) signatureLength
 -- "4, KIND: used table of the other kind"
 unfoldable pub otherKind : ℕ → (ℕ → Record) → ℕ → Bool
 otherKind n R kind = ltb 0 (usedIn n R) && not (eqb (kindOf n R) kind)
+
+-- the same, by what was found in the table
+abbrev pub otherFound : Findings → ℕ → Bool
+otherFound f kind = ltb 0 (f .used) && not (eqb (f .kind) kind)
+
+pub other-found :
+    {n : ℕ} {R : ℕ → Record} {f : Findings} (kind : ℕ) → Answers n R f → otherFound f kind ≡ otherKind n R kind
+unfolding otherKind
+other-found kind a = rw (a .used, a .kind)
 
 -- ---- what the tests show of a call that passes them
 

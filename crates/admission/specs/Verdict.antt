@@ -2,9 +2,9 @@
 -- paper's clauses say. And of a well-formed table the pass has found what calls ask of it. Assumes nothing.
 use Prim.Native.Nat.{ℕ, _+_, _*_, _≤_, _<_}
 use mathlib.Core.Path.{_≡_, refl, sym, ap, _∙_}
-use mathlib.Core.Bool.{Bool, true, false, _&&_, not}
+use mathlib.Core.Bool.{Bool, true, false, _&&_, not, false≢true}
 use native.Mathlib.Omega.{arith}
-use lib.Dec.{eqb}
+use lib.Dec.{eqb, ltb}
 use mir.Val.{boolByte}
 use borrow.Author.Tests.{leb-true, eqb-true}
 use Rattle.places.specs.Choice.{pick, and-left, and-right}
@@ -16,18 +16,24 @@ use Rattle.table.specs.Record.{Record, Used, used, noSlot}
 use Rattle.judge.specs.WellFormed.{WellFormed, ifAny, isRoot, wellFormed}
 use Rattle.judge.specs.Decided.{formed-decided}
 use Rattle.judge.specs.Counted.{kindBefore, usedCount, fits, agree, counted}
-use Rattle.judge.specs.Counting.{counted-same, kind-none, kind-all}
+use Rattle.judge.specs.Passing.{kind-none, kind-all}
+use Rattle.judge.specs.Counting.{counted-same}
 use Rattle.survey.specs.Survey.{firstFrom, usedIn, lowestFree, rootOf, kindOf}
 use Rattle.survey.specs.First.{first-from}
 use Rattle.survey.specs.Answers.{Answers, found}
-use Rattle.links.specs.Loop.Found.{first-end, last-end}
+use Rattle.links.specs.Loop.Found.{first-end, some-end}
 use Rattle.links.specs.declared.Seen.{Seen}
 use Rattle.links.specs.Loop.Seen.{SeenBefore, Ended, isEmpty, largestByte}
 
 -- what is asked of the numbers at the end
-abbrev pub numbersAgree : Seen → Bool
-numbersAgree seen =
-    eqb (seen .roots) (ifAny (seen .used)) && eqb (seen .children + seen .roots) (seen .used)
+abbrev pub numbersAgree : ℕ → Seen → Bool
+numbersAgree n seen =
+    let roots = boolByte (ltb (seen .root) n) in
+    eqb roots (ifAny (seen .used)) && eqb (seen .children + roots) (seen .used)
+
+pub byte-most : (t : Bool) → boolByte t ≤ 1
+byte-most true = omega arith
+byte-most false = omega arith
 
 pub any-byte : (used : ℕ) → boolByte (not (eqb used 0)) ≡ ifAny used
 any-byte used = go (eqb used 0)
@@ -37,52 +43,62 @@ any-byte used = go (eqb used 0)
     go false = refl
 
 module _ (n : ℕ) (R : ℕ → Record) (small : n ≤ noSlot) (seen : Seen) (end : Ended n R seen) where
-  passed-agree : seen .fit ≡ true → numbersAgree seen ≡ agree n R
-  unfolding agree
-  passed-agree e =
-      let all = end .whole e in
-      let all-used : seen .used ≡ usedCount n R = omega (arith, all .used) in
-      λ i.
-      eqb (all .roots i) (ifAny (all-used i)) && eqb (all .children i + all .roots i) (all-used i)
+  abbrev keys : Bool
+  keys = distinctTo n (λ s. R s .card) && distinctTo n (λ s. R s .timestamp)
 
-  module _ (ok : Bool) (numbers : ok ≡ numbersAgree seen) where
-    looked : seen .fit && ok ≡ allTo n (fits n R) && agree n R
-    looked = go (seen .fit) refl
-      where
-        go : (t : Bool) → seen .fit ≡ t → seen .fit && ok ≡ allTo n (fits n R) && agree n R
-        go true e = λ i. end .fit i && (numbers ∙ passed-agree e) i
-        go false e =
-            ap (λ (t : Bool). t && ok) e
-            ∙ sym (ap (λ (t : Bool). t && agree n R) (sym (end .fit) ∙ e))
+  -- by the records and the numbers, and then by the keys
+  by-parts : (t : Bool) → t ≡ allTo n (fits n R) && agree n R → t && keys ≡ wellFormed n R
+  unfolding counted
+  by-parts t e = ap (λ (b : Bool). b && keys) e ∙ counted-same n R small
 
-    -- the pass refuses the table
-    pub judged-not : seen .fit && ok ≡ false → false ≡ wellFormed n R
-    unfolding counted
-    judged-not e =
-        ap (λ (t : Bool). t && (distinctTo n (λ s. R s .card) && distinctTo n (λ s. R s .timestamp))) (sym e ∙ looked)
-        ∙ counted-same n R small
+  -- the pass refuses the table
+  pub unfit-not : seen .fit ≡ false → false ≡ wellFormed n R
+  unfit-not e = by-parts false (sym (end .misfit e))
 
-    -- it does not, and the keys decide
-    pub judged :
-        (cards timestamps : Bool)
-        → seen .fit && ok ≡ true
-        → cards ≡ distinctTo n (λ s. R s .card)
+  module _ (fit : seen .fit ≡ true) where
+    abbrev all : SeenBefore n R n seen
+    all = end .whole fit
+
+    pub children-few : n ≤ mostRecords → seen .children ≤ largestByte * mostRecords
+    children-few most = omega (arith, all .few)
+
+    passed-agree : numbersAgree n seen ≡ allTo n (fits n R) && agree n R
+    unfolding agree
+    passed-agree =
+        let all-used : seen .used ≡ usedCount n R = omega (arith, all .used) in
+        λ i.
+        all .fit i
+        && (eqb (sym (all .root .many) i) (ifAny (all-used i))
+        && eqb (all .children i + sym (all .root .many) i) (all-used i))
+
+    -- the numbers refuse it
+    pub numbers-not : numbersAgree n seen ≡ false → false ≡ wellFormed n R
+    numbers-not e = by-parts false (sym e ∙ passed-agree)
+
+    -- they do not, and the keys decide
+    pub keys-decide : numbersAgree n seen ≡ true → keys ≡ wellFormed n R
+    keys-decide e = by-parts true (sym e ∙ passed-agree)
+
+    pub cards-not : numbersAgree n seen ≡ true → distinctTo n (λ s. R s .card) ≡ false → false ≡ wellFormed n R
+    cards-not e c =
+        sym (ap (λ (t : Bool). t && distinctTo n (λ s. R s .timestamp)) c) ∙ keys-decide e
+
+    pub timestamps-decide :
+        (timestamps : Bool)
+        → numbersAgree n seen ≡ true
+        → distinctTo n (λ s. R s .card) ≡ true
         → timestamps ≡ distinctTo n (λ s. R s .timestamp)
-        → cards && timestamps ≡ wellFormed n R
-    unfolding counted
-    judged cards timestamps e c t = (λ i. (sym e ∙ looked) i && (c i && t i)) ∙ counted-same n R small
+        → timestamps ≡ wellFormed n R
+    timestamps-decide timestamps e c t =
+        t ∙ sym (ap (λ (b : Bool). b && distinctTo n (λ s. R s .timestamp)) c) ∙ keys-decide e
 
--- the numbers of a pass over a table, within their types
-pub numbers-fit :
-    (n : ℕ) (R : ℕ → Record) (seen : Seen)
-    → Ended n R seen
-    → n ≤ mostRecords
-    → (seen .children ≤ largestByte * mostRecords) × (seen .roots ≤ mostRecords)
-numbers-fit n R seen end most = (omega (arith, end .few .0), omega (arith, end .few .1))
+    -- timestamps that rise are all different
+    pub rising-apart : seen .rising ≡ true → true ≡ distinctTo n (λ s. R s .timestamp)
+    rising-apart up = sym (all .apart up)
 
 -- ---- what the pass found for the calls
 
--- a table has one root at most, so the last that the pass met is the first
+-- a table has one root at most, so the one that the pass met is the first
 one-root :
     (n : ℕ) (R : ℕ → Record)
     → WellFormed n R
@@ -117,11 +133,11 @@ kind-first n R wf past =
 module _ (n : ℕ) (R : ℕ → Record) (seen : Seen) (end : Ended n R seen) (yes′ : wellFormed n R ≡ true) where
   -- the pass saw every record of a well-formed table
   formed-whole : n ≤ noSlot → SeenBefore n R n seen
-  unfolding counted
-  formed-whole small =
-      let keys = distinctTo n (λ s. R s .card) && distinctTo n (λ s. R s .timestamp) in
-      let looked = and-left (allTo n (fits n R) && agree n R) keys (counted-same n R small ∙ yes′) in
-      end .whole (end .fit ∙ and-left (allTo n (fits n R)) (agree n R) looked)
+  formed-whole small = go (seen .fit) refl
+    where
+      go : (t : Bool) → seen .fit ≡ t → SeenBefore n R n seen
+      go true e = end .whole e
+      go false e = absurd (false≢true (unfit-not n R small seen end e ∙ yes′))
 
   pub seen-answers :
       n ≤ noSlot
@@ -135,6 +151,6 @@ module _ (n : ℕ) (R : ℕ → Record) (seen : Seen) (end : Ended n R seen) (ye
         used = omega (arith, all .used);
         lowest = first-end (isEmpty R) n (seen .lowest) (all .lowest);
         largest = all .largest;
-        root = last-end (isRoot R) n (seen .root) (one-root n R wf) (all .root);
+        root = some-end (isRoot R) n (seen .root) (one-root n R wf) (all .root .some);
         kind = all .kind ∙ kind-first n R wf past;
       }

@@ -40,25 +40,35 @@ fn unread() -> Findings
     }
 }
 
-// Is there one root if any record is used, and is every other used record counted as a child?
-fn numbers_agree(seen: Seen) -> bool
-    requires { ⌜ (seen .children ≤ largestByte * mostRecords) × (seen .roots ≤ mostRecords) ⌝ }
-    ensures { λ r. ⌜ r ≡ numbersAgree seen ⌝ }
+// Is there a root if any record is used, and is every other used record counted as a child?
+fn numbers_agree(n: usize, seen: Seen) -> bool
+    requires { ⌜ seen .children ≤ largestByte * mostRecords ⌝ }
+    ensures { λ r. ⌜ r ≡ numbersAgree n seen ⌝ }
 {
     let any = (seen.used != 0) as usize;
-    (seen.roots == any) & (seen.children + seen.roots == seen.used)
+    let roots = (seen.root < n) as usize;
+    (roots == any) & (seen.children + roots == seen.used)
 }
 
-// By what the pass has seen of the n records: are they a well-formed table?
+// By what the pass has seen of the n records: are they a well-formed table? Timestamps that rise with the slots, as
+// they do until a card is deleted, are told apart by the pass itself.
 fn formed(t: &[u8], n: usize, seen: Seen) -> bool
     requires { ⌜ StandTo (now t) n × (n ≤ mostRecords) × Ended n (recordOf (now t)) seen ⌝ }
     ensures { λ r. ⌜ r ≡ wellFormed n (recordOf (now (t .entry))) ⌝ }
 {
-    if seen.fit & numbers_agree(seen) {
-        keys_distinct(t, n, Key::Card) && keys_distinct(t, n, Key::Timestamp)
-    } else {
-        false
+    if !seen.fit {
+        return false;
     }
+    if !numbers_agree(n, seen) {
+        return false;
+    }
+    if !keys_distinct(t, n, Key::Card) {
+        return false;
+    }
+    if seen.rising {
+        return true;
+    }
+    keys_distinct(t, n, Key::Timestamp)
 }
 
 // Judges the table, and answers what calls ask of it: one pass over the records, and their keys told apart.

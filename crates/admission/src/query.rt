@@ -1,9 +1,6 @@
 // What every call that looks for a signature asks of what it is told, and of the table's kind.
 ghost use mathlib.Core.Path.{_≡_};
-ghost use Prim.Native.Nat.{ℕ};
-ghost use Rattle.table.specs.Record.{Record};
-ghost use Rattle.survey.specs.Answers.{Answers};
-ghost use Rattle.admission.specs.Query.{knownQuery, otherKind};
+ghost use Rattle.admission.specs.Query.{knownQuery, otherFound};
 use refusals::limit::SIGNATURE;
 use survey::Findings;
 
@@ -16,7 +13,7 @@ pub fn known_query(kind: u8, signature: &[u8]) -> bool
 
 // Whether the table in which this was found is used and of another kind; if so, the call is refused with KIND.
 pub fn other_kind(found: Findings, kind: u8) -> bool
-    ensures { λ r. ⌜ ((n : ℕ) (R : ℕ → Record) → Answers n R found → r ≡ otherKind n R kind) ⌝ }
+    ensures { λ r. ⌜ r ≡ otherFound found kind ⌝ }
 {
     (0 < found.used) & (found.kind != kind)
 }

@@ -10,7 +10,7 @@ use Rattle.distance.specs.Kind.{apart}
 use Rattle.refusals.specs.Limits.{mostChildren, lastTimestamp}
 use Rattle.table.specs.Record.{Record}
 use Rattle.table.specs.Table.{at}
-use Rattle.table.specs.RoundTrip.{FittingRow}
+use Rattle.table.specs.Fitting.{FittingRow}
 use Rattle.survey.specs.Survey.{largestTimestamp}
 use Rattle.tree.specs.Slots.{_∈_}
 use Rattle.placing.specs.Place.{Placed}

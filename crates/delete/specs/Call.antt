@@ -21,7 +21,8 @@ use Rattle.table.specs.Stands.{right-most}
 use Rattle.judge.specs.WellFormed.{WellFormed, wellFormed}
 use Rattle.survey.specs.Survey.{slotOfCard}
 use Rattle.survey.specs.Laws.{slot-has-card}
-use Rattle.admission.specs.Admission.{admissionTests, Readable}
+use Rattle.judge.specs.Readable.{Readable}
+use Rattle.admission.specs.Admission.{admissionTests}
 use Rattle.view.specs.Shaped.{Shaped}
 use Rattle.view.specs.Readable.{readable-formed, readable-shaped}
 use Rattle.placing.specs.Changed.{changed}

@@ -17,7 +17,7 @@ use Rattle.admission.specs.Admission.{admissionTests}
 use Rattle.placing.specs.Place.{Placed}
 use Rattle.placing.specs.Changed.{changed}
 use Rattle.removal.specs.Removal.{leaving, removed}
-use Rattle.back.specs.Age.{byAge}
+use Rattle.age.specs.Age.{byAge}
 use Rattle.back.specs.Back.{putBack}
 
 -- the slots that stood below v, "oldest first by their old timestamps"

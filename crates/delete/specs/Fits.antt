@@ -11,7 +11,7 @@ use Rattle.places.specs.Cases.{below-or, either}
 use Rattle.refusals.specs.Limits.{mostChildren, lastTimestamp}
 use Rattle.table.specs.Record.{Record, Used, slot}
 use Rattle.table.specs.Table.{at}
-use Rattle.table.specs.RoundTrip.{Fitting, FittingRow}
+use Rattle.table.specs.Fitting.{Fitting, FittingRow}
 use Rattle.survey.specs.Survey.{largestTimestamp}
 use Rattle.view.specs.Formed.{free-or-used}
 use Rattle.placing.specs.RowsFit.{fitting-free}

@@ -23,7 +23,7 @@ use Rattle.removal.specs.Leaving.{
   below-iff,
   below-distinct,
 }
-use Rattle.back.specs.Age.{
+use Rattle.age.specs.Age.{
   slotSpan,
   ageKey,
   slotIn,

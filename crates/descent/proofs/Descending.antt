@@ -21,8 +21,8 @@ use Rattle.table.specs.Record.{Record, recordOf, slot, children}
 use Rattle.table.specs.Table.{recordsOf, at}
 use Rattle.table.specs.Same.{slots-length}
 use Rattle.table.specs.Records.{records-at}
-use Rattle.table.specs.RoundTrip.{record-fits}
-use Rattle.table.specs.Laws.{Became}
+use Rattle.table.specs.Fitting.{record-fits}
+use Rattle.writing.specs.Laws.{Became}
 use Rattle.tree.specs.Insert.{nearest}
 use Rattle.tree.specs.View.{away as away′}
 use Rattle.view.specs.View.{viewOf}

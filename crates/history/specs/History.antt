@@ -11,7 +11,7 @@ use Rattle.places.specs.Choice.{pick}
 use Rattle.number.specs.Frame.{Bytes}
 use Rattle.distance.specs.Signature.{readingsAt}
 use Rattle.table.specs.Table.{freeTable}
-use Rattle.table.specs.Clear.{clearOf}
+use Rattle.writing.specs.Clear.{clearOf}
 use Rattle.refusals.specs.Refusal.{done}
 use Rattle.newcomer.specs.Newcomer.{Newcomer}
 use Rattle.insert.specs.Insert.{insertOf}

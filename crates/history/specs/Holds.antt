@@ -14,7 +14,8 @@ use Rattle.table.specs.Table.{rightSize, recordsIn, freeTable, recordsOf, at, b
 use Rattle.table.specs.Stands.{AreRecords, WholeRecords, are-in, are-whole, whole-are, are-right, free-are}
 use Rattle.table.specs.Same.{free-table, free-bytes}
 use Rattle.table.specs.Records.{records-at}
-use Rattle.table.specs.RoundTrip.{FittingRow, row-fits, bytesOf-length, bytesOf-bytes}
+use Rattle.table.specs.Fitting.{FittingRow}
+use Rattle.table.specs.RoundTrip.{row-fits, bytesOf-length, bytesOf-bytes}
 use Rattle.judge.specs.WellFormed.{WellFormed}
 use Rattle.tree.specs.Slots.{Distinct}
 use Rattle.newcomer.specs.Newcomer.{Newcomer}

@@ -14,7 +14,7 @@ use Rattle.refusals.specs.Limits.{mostRecords}
 use Rattle.table.specs.Table.{rightSize, recordsIn, recordsOf, at}
 use Rattle.table.specs.Stands.{are-free}
 use Rattle.table.specs.Size.{rows-are}
-use Rattle.table.specs.Clear.{clear-done}
+use Rattle.writing.specs.Clear.{clear-done}
 use Rattle.survey.specs.Survey.{slotOfCard}
 use Rattle.tree.specs.Slots.{_∈_, Distinct, image-from, image-to}
 use Rattle.places.specs.Cases.{either}

@@ -10,7 +10,7 @@ use lib.ListN.{length}
 use Rattle.table.specs.Record.{recordOf}
 use Rattle.refusals.specs.Limits.{mostRecords, knownArity, lastTimestamp, signatureLength}
 use Rattle.table.specs.Table.{rightSize, recordsIn, recordsOf}
-use Rattle.table.specs.Clear.{Cleared, clearOf}
+use Rattle.writing.specs.Clear.{Cleared, clearOf}
 use Rattle.judge.specs.WellFormed.{wellFormed}
 use Rattle.survey.specs.Survey.{usedIn, slotOfCard, lowestFree, largestTimestamp}
 use Rattle.refusals.specs.Refusal.{SIZE, TABLE, ARGUMENT, KIND, TWICE, ABSENT, FULL, CLOCK, SHORT, LOOSE, firstOf, done}

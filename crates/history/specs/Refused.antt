@@ -9,7 +9,7 @@ use lib.ListN.{length}
 use borrow.Author.Tests.{eq-eqb, ne-eqb}
 use Rattle.table.specs.Record.{recordOf}
 use Rattle.table.specs.Table.{rightSize, recordsIn, recordsOf, bytesOf}
-use Rattle.table.specs.Clear.{clearOf, clear-done, clear-refused}
+use Rattle.writing.specs.Clear.{clearOf, clear-done, clear-refused}
 use Rattle.survey.specs.Survey.{slotOfCard}
 use Rattle.refusals.specs.Refusal.{SIZE, done, firstOf}
 use Rattle.insert.specs.Insert.{inserted, insertOf}

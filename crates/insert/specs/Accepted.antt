@@ -18,14 +18,15 @@ use Rattle.table.specs.Size.{rows-are}
 use Rattle.table.specs.Stands.{right-most}
 use Rattle.judge.specs.WellFormed.{WellFormed}
 use Rattle.survey.specs.Survey.{usedIn, kindOf, slotOfCard, lowestFree, largestTimestamp}
-use Rattle.survey.specs.Laws.{no-card-before, lowest-no-card}
+use Rattle.survey.specs.Laws.{no-card-before, lowest-no-card, usedIn-seen}
 use Rattle.admission.specs.Query.{otherKind}
 use Rattle.distance.specs.Kind.{knownKind}
 use Rattle.refusals.specs.Limits.{knownArity, mostChildren, lastTimestamp, signatureLength}
 use Rattle.refusals.specs.Refusal.{firstOf, done}
 use Rattle.refusals.specs.First.{anyHolds, first-none}
-use Rattle.admission.specs.Admission.{Readable, admissionTests, admitted-readable}
-use Rattle.view.specs.Survey.{usedIn-seen, kindOf-is}
+use Rattle.judge.specs.Readable.{Readable}
+use Rattle.admission.specs.Admission.{admissionTests, admitted-readable}
+use Rattle.view.specs.Survey.{kindOf-is}
 use Rattle.view.specs.Shaped.{Shaped}
 use Rattle.view.specs.Readable.{readable-formed, readable-shaped}
 use Rattle.newcomer.specs.Newcomer.{Newcomer, newcomer}

@@ -16,7 +16,7 @@ use Rattle.refusals.specs.Refusal.{Test, firstOf, done, ARGUMENT, KIND, TWICE, 
 use Rattle.refusals.specs.First.{first-append}
 use Rattle.refusals.specs.Limits.{lastTimestamp}
 use Rattle.admission.specs.Admission.{admissionTests}
-use Rattle.admission.specs.Query.{otherKind}
+use Rattle.admission.specs.Query.{otherKind, otherFound, other-found}
 use Rattle.insert.specs.Insert.{rightArguments, refusalOf}
 
 -- ---- the groups
@@ -24,7 +24,7 @@ use Rattle.insert.specs.Insert.{rightArguments, refusalOf}
 -- by what a table of n records holds, of its survey's findings, where the card stands in `slot`
 abbrev pub heldBy : Findings → ℕ → ℕ → ℕ → List Test
 heldBy f n kind slot =
-    (ltb 0 (f .used) && not (eqb (f .kind) kind), KIND)
+    (otherFound f kind, KIND)
     ∷ (ltb slot n, TWICE)
     ∷ (leb n (f .lowest), FULL)
     ∷ (leb lastTimestamp (f .largest), CLOCK)
@@ -66,8 +66,7 @@ module _ (l : List ℕ) (card kind arity : ℕ) (s : List ℕ) where
       → (slot : ℕ)
       → slot ≡ slotOfCard n (recordOf l) card
       → firstOf (heldBy f n kind slot) ≡ firstOf heldTests
-  unfolding otherKind
-  found-held answers slot at-slot = rw (answers .used, answers .kind, answers .lowest, answers .largest, at-slot)
+  found-held answers slot at-slot = rw (other-found kind answers, answers .lowest, answers .largest, at-slot)
 
   -- ---- insert's own refusal
 

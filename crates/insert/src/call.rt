@@ -33,7 +33,7 @@ fn right_arguments(card: u32, kind: u8, arity: u8, signature: &[u8]) -> bool
 fn held_refusal(found: Findings, n: usize, kind: u8, slot: usize) -> u8
     ensures { λ r. ⌜ r ≡ firstOf (heldBy found n kind slot) ⌝ }
 {
-    let other = (0 < found.used) & (found.kind != kind);
+    let other = admission::query::other_kind(found, kind);
     let twice = slot < n;
     let full = n <= found.lowest;
     let spent = TIMESTAMP <= found.largest;

@@ -1,42 +1,20 @@
--- The test of WellFormed.antt says yes exactly where the statements hold, and both look at the table's own slots alone.
--- Assumes nothing.
+-- The test of WellFormed.antt says yes exactly where the statements hold. Assumes nothing.
 use Prim.Native.Nat.{ℕ, zero, suc, _+_, _≤_, _<_}
 use mathlib.Core.Path.{_≡_, refl, sym, ap, _∙_}
 use mathlib.Core.Bool.{Bool, true, false}
-use mathlib.Core.List.{List}
 use native.Mathlib.Omega.{arith}
 use lib.Dec.{eqb}
-use lib.ListN.{getD, length, replicate, length-replicate, getD-replicate}
-use lib.Seq.{ext-getD}
 use borrow.Author.Tests.{eqb-true, eq-eqb, ne-eqb}
 use Rattle.places.specs.Choice.{pick}
 use Rattle.places.specs.Test.{countTo}
 use Rattle.places.specs.Count.{none-counted, some-counted, one-counted, counted-one, seen-counted}
-use Rattle.places.specs.Decides.{
-  Decides,
-  true-decided,
-  le-decided,
-  lt-decided,
-  eq-decided,
-  both,
-  if-so,
-  not-so,
-  chosen,
-  at-each,
-  reworded,
-  decides-same,
-}
-use Rattle.distance.specs.Kind.{knownKind}
+use Rattle.places.specs.Decides.{Decides, lt-decided, eq-decided, both, if-so, not-so, chosen, at-each, reworded}
 use Rattle.table.specs.Record.{Record, Used, used, free, slot, noSlot}
 use Rattle.judge.specs.WellFormed.{
   Filled,
   Hung,
   Owned,
   WellFormed,
-  zeros,
-  isFree,
-  isFilled,
-  pastCount,
   ifAny,
   eachUsed,
   allFormed,
@@ -50,80 +28,7 @@ use Rattle.judge.specs.WellFormed.{
   wellFormed,
   standing,
 }
-
--- ---- one record
-
-pub used-decided : (r : Record) → Decides (used r) (Used r)
-used-decided r = le-decided 1 (r .card)
-
-zeros-decided : (n : ℕ) (l : List ℕ) → Decides (zeros n l) (l ≡ replicate n 0)
-zeros-decided n l =
-    reworded
-    (λ h. ext-getD 0 l (replicate n 0) (h .0 ∙ sym (length-replicate n 0)) (λ i b. at h i (rw (h .0) at b)))
-    (λ e. (ap length e ∙ length-replicate n 0, λ i b. ap (λ (m : List ℕ). getD m i 0) e ∙ getD-replicate n i 0 0 b))
-    (both (eq-decided (length l) n) (at-each n (λ i. eq-decided (getD l i 0) 0)))
-  where
-    at :
-        (length l ≡ n) × ((i : ℕ) → i < n → getD l i 0 ≡ 0)
-        → (i : ℕ)
-        → i < n
-        → getD l i 0 ≡ getD (replicate n 0) i 0
-    at h i b = h .1 i b ∙ sym (getD-replicate n i 0 0 b)
-
-pub free-decided : (r : Record) → Decides (isFree r) (r ≡ free)
-unfolding isFree
-free-decided r =
-    reworded
-    (λ h i.
-    record {
-      card = h .0 .0 .0 .0 i;
-      timestamp = h .0 .0 .0 .1 i;
-      radius = h .0 .0 .1 .0 i;
-      parent = h .0 .0 .1 .1 i;
-      count = h .0 .1 .0 i;
-      kind = h .0 .1 .1 i;
-      slots = h .1 .0 i;
-      readings = h .1 .1 i;
-    })
-    (λ e. (
-      (
-        (
-          (ap (λ (x : Record). x .card) e, ap (λ (x : Record). x .timestamp) e),
-          (ap (λ (x : Record). x .radius) e, ap (λ (x : Record). x .parent) e),
-        ),
-        (ap (λ (x : Record). x .count) e, ap (λ (x : Record). x .kind) e),
-      ),
-      (ap (λ (x : Record). x .slots) e, ap (λ (x : Record). x .readings) e),
-    ))
-    (both
-    (both
-    (both
-    (both (eq-decided (r .card) 0) (eq-decided (r .timestamp) 0))
-    (both (eq-decided (r .radius) 0) (eq-decided (r .parent) 0)))
-    (both (eq-decided (r .count) 0) (eq-decided (r .kind) 0)))
-    (both (zeros-decided 8 (r .slots)) (zeros-decided 16 (r .readings))))
-
-pub filled-decided : (r : Record) → Decides (isFilled r) (Filled r)
-unfolding isFilled pastCount
-filled-decided r =
-    reworded
-    (λ h.
-    record {
-      card-from-1 = h .0 .0 .0;
-      timestamp-from-1 = h .0 .0 .1;
-      count-to-8 = h .0 .1;
-      kind-known = h .1 .0;
-      past-count = λ i p b. h .1 .1 i b p;
-    })
-    (λ f. (
-      ((f .card-from-1, f .timestamp-from-1), f .count-to-8),
-      (f .kind-known, λ i b p. f .past-count i p b),
-    ))
-    (both
-    (both (both (le-decided 1 (r .card)) (le-decided 1 (r .timestamp))) (le-decided (r .count) 8))
-    (both
-    (true-decided (knownKind (r .kind)))
-    (at-each 8 (λ i. if-so (le-decided (r .count) i) (eq-decided (slot r i) noSlot)))))
+use Rattle.judge.specs.OneDecided.{filled-decided, free-decided, used-decided}
 
 -- ---- each clause
 
@@ -340,64 +245,3 @@ module _ (n : ℕ) (R : ℕ → Record) where
       (both (distinct-decided (λ r. r .card)) (distinct-decided (λ r. r .timestamp))))
       (both kinds-decided roots-decided))
       (both hung-decided (both owned-decided rising-decided)))
-
--- ---- the table's own slots alone
-
-module _ (n : ℕ) (R S : ℕ → Record) (e : (s : ℕ) → s < n → R s ≡ S s) where
-  hung-same : (s : ℕ) → s < n → Hung n R s → Hung n S s
-  hung-same s b h =
-      let p : R (R s .parent) ≡ S (R s .parent) = e (R s .parent) (h .parent-in) in
-      record {
-        parent-in = rw (← e s b) (h .parent-in);
-        parent-used = rw (← e s b, ← p) (h .parent-used);
-        parent-older = rw (← e s b, ← p) (h .parent-older);
-        stands-once = rw (← e s b, ← p) (h .stands-once);
-      }
-
-  owned-same : (a c : ℕ) → Owned n R a c → Owned n S a c
-  owned-same a c h =
-      let p : R c ≡ S c = e c (h .child-in) in
-      record {
-        child-in = h .child-in;
-        child-used = rw (← p) (h .child-used);
-        child-parent = rw (← p) (h .child-parent);
-      }
-
-  -- tables with the same records in their slots are well formed together
-  pub formed-same : WellFormed n R → WellFormed n S
-  formed-same w =
-      record {
-        free-if-no-card = λ s b z. sym (e s b) ∙ w .free-if-no-card s b (rw (e s b) z);
-        filled = λ s b u. rw (e s b) at (w .filled s b (rw (e s b) u));
-        cards = λ a b ba bb ua ub q. w .cards a b ba bb (rw (e a ba) ua) (rw (e b bb) ub) (rw (e a ba, e b bb) q);
-        timestamps =
-            λ a b ba bb ua ub q. w .timestamps a b ba bb (rw (e a ba) ua) (rw (e b bb) ub) (rw (e a ba, e b bb) q);
-        kinds = λ a b ba bb ua ub. rw (← e a ba, ← e b bb) (w .kinds a b ba bb (rw (e a ba) ua) (rw (e b bb) ub));
-        a-root =
-            λ s b u.
-            let r = w .a-root s b (rw (e s b) u) in
-            let p : R (r .0) ≡ S (r .0) = e (r .0) (r .1) in (r .0, r .1, rw (← p) (r .2), rw (← p) (r .3));
-        one-root =
-            λ a b ba bb ua ub ra rb.
-            w .one-root a b ba bb (rw (e a ba) ua) (rw (e b bb) ub) (rw (e a ba) ra) (rw (e b bb) rb);
-        hung = λ s b u f. hung-same s b (w .hung s b (rw (e s b) u) (λ q. f (rw (← e s b) q)));
-        owned =
-            λ a i b u l. rw (← e a b) (owned-same a (slot (R a) i) (w .owned a i b (rw (e a b) u) (rw (e a b) l)));
-        rising =
-            λ a i b u l.
-            let ua : Used (R a) = rw (e a b) u in
-            let la : i + 1 < R a .count = rw (e a b) l in
-            let p : R (slot (R a) i) ≡ S (slot (R a) i) = e _ (w .owned a i b ua (omega arith) .child-in) in
-            let q : R (slot (R a) (i + 1)) ≡ S (slot (R a) (i + 1)) = e _ (w .owned a (i + 1) b ua la .child-in) in
-            rw (← e a b, ← p, ← q) (w .rising a i b ua la);
-      }
-
--- and their tests give one answer
-pub test-same : (n : ℕ) (R S : ℕ → Record) → ((s : ℕ) → s < n → R s ≡ S s) → wellFormed n R ≡ wellFormed n S
-test-same n R S e =
-    decides-same
-    (reworded
-    (formed-same n R S e)
-    (formed-same n S R (λ s b. sym (e s b)))
-    (formed-decided n R))
-    (formed-decided n S)

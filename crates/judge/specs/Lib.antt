@@ -2,8 +2,11 @@
 
 -- the paper's words
 pub mod WellFormed
+pub mod OneDecided
 pub mod Decided
+pub mod Readable
 -- the counting form
 pub mod Counted
+pub mod Passing
 pub mod Standing
 pub mod Counting

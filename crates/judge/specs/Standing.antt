@@ -14,7 +14,7 @@ use Rattle.places.specs.Count.{one, one-yes, count-sum, some-counted, spread}
 use Rattle.places.specs.Decides.{Decides, eq-decided, both, not-so}
 use Rattle.table.specs.Record.{Record, Used, used, free, slot, noSlot}
 use Rattle.judge.specs.WellFormed.{Hung, Owned, isRoot, standing}
-use Rattle.judge.specs.Decided.{used-decided}
+use Rattle.judge.specs.OneDecided.{used-decided}
 use Rattle.judge.specs.Counted.{usedCount, rootCount, childCount}
 
 -- how often s stands in the child slots of all records

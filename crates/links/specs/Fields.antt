@@ -11,7 +11,7 @@ use Rattle.distance.specs.Kind.{knownKind}
 use Rattle.refusals.specs.Limits.{mostChildren}
 use Rattle.table.specs.Record.{Record, Used}
 use Rattle.judge.specs.WellFormed.{pastCount, isFilled}
-use Rattle.judge.specs.Decided.{filled-decided}
+use Rattle.judge.specs.OneDecided.{filled-decided}
 
 -- the code's test of a used record, its child slots aside
 abbrev pub unfilled : ℕ → ℕ → ℕ → Bool

@@ -2,3 +2,4 @@
 pub mod Children
 pub mod Found
 pub mod Seen
+pub mod Turn

@@ -1,15 +1,14 @@
 // One pass over the records: what it asks of each, and the numbers that it brings back.
 ghost use mathlib.Core.Path.{_≡_};
 ghost use mathlib.Core.Bool.{_&&_};
-ghost use Prim.Native.Nat.{_+_, _≤_, _<_, min, max};
-ghost use Rattle.places.specs.Choice.{pick};
+ghost use Prim.Native.Nat.{_+_, _*_, _≤_, _<_, min, max};
 ghost use Rattle.refusals.specs.Limits.{mostRecords, mostChildren};
 ghost use Rattle.table.specs.Record.{recordOf};
 ghost use Rattle.table.specs.Stands.{Stands, StandTo};
 ghost use Rattle.judge.specs.WellFormed.{isFilled, pastCount};
 ghost use Rattle.judge.specs.Counted.{allLinked};
 ghost use Rattle.links.specs.Floors.{firstFloors, lastFloors};
-ghost use Rattle.links.specs.Loop.Seen.{SeenBefore, Looked, Ended, unfit};
+ghost use Rattle.links.specs.Loop.Seen.{SeenBefore, Looked, Ended, unfit, withUsed, largestByte};
 use refusals::limit::CHILDREN;
 use table::NO_SLOT;
 
@@ -107,15 +106,15 @@ fn record_ok(
 }
 
 // What a pass has seen of the records before a slot: whether all of them fit, the kind of the last used one, how many
-// of all records were not found free, how many are roots, how many children they count; and for the calls the lowest
-// free slot, the largest timestamp and the slot of the last root. A slot that is not found is the number of records,
-// and so past the last.
+// of all records were not found free, how many children they count, and whether timestamps rise with the slots, so that
+// they need not be told apart; and for the calls the lowest free slot, the largest timestamp and the slot of the root.
+// A slot that is not found is the number of records, and so past the last.
 pub struct Seen {
     pub fit: bool,
     pub kind: u8,
     pub used: usize,
-    pub roots: usize,
     pub children: usize,
+    pub rising: bool,
     pub lowest: usize,
     pub largest: u32,
     pub root: usize,
@@ -133,14 +132,8 @@ fn larger(a: u32, b: u32) -> u32
     if a < b { b } else { a }
 }
 
-fn one_of(test: bool, a: usize, b: usize) -> usize
-    ensures { λ r. ⌜ r ≡ pick test a b ⌝ }
-{
-    if test { a } else { b }
-}
-
-// What is told where a record does not fit. All else stays as it was: numbers of their own would be made ready before
-// each test, for an end that hardly comes.
+// What is told where the table cannot be well formed. All else stays as it was: numbers of their own would be made
+// ready before each test, for an end that hardly comes.
 fn misfit(seen: Seen) -> Seen
     ensures { λ r. ⌜ r ≡ unfit seen ⌝ }
 {
@@ -148,16 +141,33 @@ fn misfit(seen: Seen) -> Seen
         fit: false,
         kind: seen.kind,
         used: seen.used,
-        roots: seen.roots,
         children: seen.children,
+        rising: seen.rising,
         lowest: seen.lowest,
         largest: seen.largest,
         root: seen.root,
     }
 }
 
-// What the pass has seen, with the record in slot s besides. A record that does not fit ends it at once, so that no
-// number has to be kept for it.
+// What is seen with a used record besides that fits.
+fn with_used(seen: Seen, kind: u8, count: u8, timestamp: u32, root: usize) -> Seen
+    requires { ⌜ seen .children ≤ largestByte * mostRecords ⌝ }
+    ensures { λ r. ⌜ r ≡ withUsed seen kind count timestamp root ⌝ }
+{
+    Seen {
+        fit: true,
+        kind,
+        used: seen.used,
+        children: seen.children + count as usize,
+        rising: seen.rising & (seen.largest < timestamp),
+        lowest: seen.lowest,
+        largest: larger(timestamp, seen.largest),
+        root,
+    }
+}
+
+// What the pass has seen, with the record in slot s besides. A record that does not fit, or a second root, ends it at
+// once, so that no number has to be kept for it.
 fn look(t: &[u8], n: usize, s: usize, seen: Seen, first: &[u64; 9], last: &[u64; 9]) -> Seen
     requires { ⌜ (now first ≡ firstFloors) × (now last ≡ lastFloors) ⌝ }
     requires { ⌜ StandTo (now t) n × (n ≤ mostRecords) × (s < n) × SeenBefore n (recordOf (now t)) s seen ⌝ }
@@ -171,8 +181,8 @@ fn look(t: &[u8], n: usize, s: usize, seen: Seen, first: &[u64; 9], last: &[u64;
             fit: true,
             kind: seen.kind,
             used: seen.used - 1,
-            roots: seen.roots,
             children: seen.children,
+            rising: seen.rising,
             lowest: earlier(seen.lowest, s),
             largest: seen.largest,
             root: seen.root,
@@ -181,23 +191,19 @@ fn look(t: &[u8], n: usize, s: usize, seen: Seen, first: &[u64; 9], last: &[u64;
     let kind = table::kind_of(t, s);
     let count = table::count_of(t, s);
     let timestamp = table::timestamp_of(t, s);
-    if (seen.kind != 0) & (seen.kind != kind) {
+    if (seen.kind != kind) & (seen.kind != 0) {
         return misfit(seen);
     }
     if !record_ok(t, n, s, kind, count, timestamp, first, last) {
         return misfit(seen);
     }
-    let root = table::parent_of(t, s) == NO_SLOT;
-    Seen {
-        fit: true,
-        kind,
-        used: seen.used,
-        roots: seen.roots + root as usize,
-        children: seen.children + count as usize,
-        lowest: seen.lowest,
-        largest: larger(timestamp, seen.largest),
-        root: one_of(root, s, seen.root),
+    if table::parent_of(t, s) != NO_SLOT {
+        return with_used(seen, kind, count, timestamp, seen.root);
     }
+    if seen.root < n {
+        return misfit(seen);
+    }
+    with_used(seen, kind, count, timestamp, s)
 }
 
 // The whole pass, up to the first record that does not fit. At each turn it has seen the records before s, and they
@@ -212,8 +218,8 @@ pub fn links(t: &[u8], n: usize) -> Seen
         fit: true,
         kind: 0,
         used: n,
-        roots: 0,
         children: 0,
+        rising: true,
         lowest: n,
         largest: 0,
         root: n,

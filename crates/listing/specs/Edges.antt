@@ -21,7 +21,7 @@ use Rattle.order.specs.Order.{inOrder, putAmong}
 use Rattle.table.specs.Record.{Record, free, recordOf}
 use Rattle.table.specs.Table.{at, recordsOf}
 use Rattle.table.specs.Size.{rows-are}
-use Rattle.table.specs.Put.{putRadius}
+use Rattle.writing.specs.Put.{putRadius}
 use Rattle.judge.specs.WellFormed.{wellFormed, isFree, isFilled, pastCount, allFormed, distinct, oneKind, oneRoot}
 use Rattle.judge.specs.WellFormed.{allHung, allOwned, allRising}
 use Rattle.survey.specs.Survey.{firstFrom, usedIn, rootOf, kindOf, slotOfCard, lowestFree, largestTimestamp}

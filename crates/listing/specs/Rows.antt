@@ -19,8 +19,8 @@ use Rattle.distance.specs.Kind.{apart, knownKind}
 use Rattle.table.specs.Record.{Record, free, recordOf}
 use Rattle.refusals.specs.Limits.{mostRecords, knownArity, lastTimestamp, signatureLength}
 use Rattle.table.specs.Table.{rightSize, recordsIn, freeTable, recordsOf, at}
-use Rattle.table.specs.Put.{putRadius, withRadius}
-use Rattle.table.specs.Laws.{put-radius}
+use Rattle.writing.specs.Put.{putRadius, withRadius}
+use Rattle.writing.specs.Laws.{put-radius}
 use Rattle.table.specs.Stands.{are-in, are-stands, free-are}
 use Rattle.table.specs.Same.{free-table}
 use Rattle.table.specs.Records.{records-length, records-in}

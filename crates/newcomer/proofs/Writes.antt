@@ -8,9 +8,9 @@ use native.Mathlib.Numerals.{add-one}
 use lib.ListN.{length, set, replicate, length-set, length-replicate, getD-replicate}
 use Rattle.places.specs.Fill.{Filled, filled-more, filled-all}
 use Rattle.table.specs.Record.{Record, recordOf, noSlot}
-use Rattle.table.specs.Put.{parts, withRadius, withSlot, withCount}
+use Rattle.writing.specs.Put.{parts, withRadius, withSlot, withCount}
 use Rattle.table.specs.Stands.{Stands, stands-same}
-use Rattle.table.specs.Laws.{Became, then-with}
+use Rattle.writing.specs.Laws.{Became, then-with}
 use Rattle.newcomer.specs.Newcomer.{raised, adopting}
 
 -- ---- one write after others

@@ -5,7 +5,7 @@ use mathlib.Core.Path.{_≡_, ap}
 use mathlib.Core.List.{List}
 use lib.ListN.{set, replicate}
 use Rattle.table.specs.Record.{Record, noSlot}
-use Rattle.table.specs.Put.{parts}
+use Rattle.writing.specs.Put.{parts}
 
 -- ---- what a card brings
 

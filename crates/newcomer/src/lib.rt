@@ -6,7 +6,7 @@ ghost use Rattle.distance.specs.Signature.{Fit};
 ghost use Rattle.refusals.specs.Limits.{mostChildren};
 ghost use Rattle.table.specs.Record.{recordOf};
 ghost use Rattle.table.specs.Stands.{Stands};
-ghost use Rattle.table.specs.Laws.{Became};
+ghost use Rattle.writing.specs.Laws.{Became};
 ghost use Rattle.newcomer.specs.Newcomer.{raised, adopting, fresh, brought, named, slotless};
 use distance::Signature;
 use table::NO_SLOT;
@@ -17,7 +17,7 @@ pub fn raise(t: &mut [u8], a: usize, away: u32)
     ensures { λ _. ⌜ Became (now (t .entry)) a (raised away (recordOf (now (t .entry)) a)) (now (t .exit)) ⌝ }
 {
     if table::radius_of(t, a) < away {
-        table::put_radius(t, a, away);
+        writing::put_radius(t, a, away);
     }
 }
 
@@ -27,8 +27,8 @@ pub fn adopt(t: &mut [u8], a: usize, s: usize)
     ensures { λ _. ⌜ Became (now (t .entry)) a (adopting s (recordOf (now (t .entry)) a)) (now (t .exit)) ⌝ }
 {
     let n = table::count_of(t, a);
-    table::put_slot(t, a, n as usize, s as u16);
-    table::put_count(t, a, n + 1);
+    writing::put_slot(t, a, n as usize, s as u16);
+    writing::put_count(t, a, n + 1);
 }
 
 // Card, kind and signature of the newcomer are written into slot s.
@@ -37,9 +37,9 @@ pub fn name(t: &mut [u8], s: usize, card: u32, kind: u8, signature: Signature)
     ensures { λ _. ⌜ Became (now (t .entry)) s
         (named card kind (signature .readings) (recordOf (now (t .entry)) s)) (now (t .exit)) ⌝ }
 {
-    table::put_card(t, s, card);
-    table::put_kind(t, s, kind);
-    table::put_signature(t, s, signature);
+    writing::put_card(t, s, card);
+    writing::put_kind(t, s, kind);
+    writing::put_signature(t, s, signature);
 }
 
 // The eight child slots of the record in slot s become 65,535. At each turn the first i of them are.
@@ -48,7 +48,7 @@ fn clear_slots(t: &mut [u8], s: usize)
     ensures { λ _. ⌜ Became (now (t .entry)) s (slotless (recordOf (now (t .entry)) s)) (now (t .exit)) ⌝ }
 {
     for i in 0..8usize {
-        table::put_slot(t, s, i, NO_SLOT);
+        writing::put_slot(t, s, i, NO_SLOT);
     }
 }
 
@@ -58,9 +58,9 @@ pub fn seat(t: &mut [u8], s: usize, timestamp: u32, parent: u16)
     ensures { λ _. ⌜ Became (now (t .entry)) s
         (fresh (brought (recordOf (now (t .entry)) s)) timestamp parent) (now (t .exit)) ⌝ }
 {
-    table::put_timestamp(t, s, timestamp);
-    table::put_radius(t, s, 0);
-    table::put_parent(t, s, parent);
-    table::put_count(t, s, 0);
+    writing::put_timestamp(t, s, timestamp);
+    writing::put_radius(t, s, 0);
+    writing::put_parent(t, s, parent);
+    writing::put_count(t, s, 0);
     clear_slots(t, s);
 }

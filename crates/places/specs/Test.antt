@@ -7,6 +7,7 @@ use native.Mathlib.Omega.{arith}
 use native.Mathlib.Numerals.{add-one}
 use native.Mathlib.Nat.{eq-or-lt-of-le, le-of-suc-le-suc}
 use Rattle.places.specs.Choice.{pick, and-left, and-right, and-both, and-comm}
+use Rattle.places.specs.Cases.{equal-or}
 
 -- every one of the first n places passes
 unfoldable pub allTo : ℕ → (ℕ → Bool) → Bool
@@ -75,3 +76,15 @@ count-most (suc n) p = go (p n) (count-most n p)
     go : (t : Bool) → countTo n p ≤ n → pick t 1 0 + countTo n p ≤ suc n
     go true h = omega arith
     go false h = omega arith
+
+-- more places, no fewer that pass
+pub count-grows : (m n : ℕ) (p : ℕ → Bool) → m ≤ n → countTo m p ≤ countTo n p
+unfolding countTo
+count-grows m zero p h =
+    let e : m ≡ 0 = omega arith in rw e (omega arith)
+count-grows m (suc n) p h =
+    equal-or m (suc n) (λ e. rw e (omega arith)) (λ ne. go (p n) (count-grows m n p (omega arith)))
+  where
+    go : (t : Bool) → countTo m p ≤ countTo n p → countTo m p ≤ pick t 1 0 + countTo n p
+    go true q = omega arith
+    go false q = omega arith

@@ -13,7 +13,7 @@ use Rattle.table.specs.Record.{Record, recordOf, children}
 use Rattle.table.specs.Table.{recordsOf, at}
 use Rattle.table.specs.Same.{slots-length}
 use Rattle.table.specs.Records.{records-at}
-use Rattle.table.specs.Laws.{Became}
+use Rattle.writing.specs.Laws.{Became}
 use Rattle.tree.specs.Slots.{_∈_}
 use Rattle.tree.specs.View.{distanceCount}
 use Rattle.tree.specs.Insert.{path, last}

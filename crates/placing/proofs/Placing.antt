@@ -14,7 +14,7 @@ use Rattle.table.specs.Record.{Record, free, recordOf, noSlot}
 use Rattle.table.specs.Table.{recordsIn, recordsOf, at}
 use Rattle.table.specs.Records.{records-at}
 use Rattle.table.specs.Size.{rows-are}
-use Rattle.table.specs.Laws.{Became, became-then}
+use Rattle.writing.specs.Laws.{Became, became-then}
 use Rattle.judge.specs.WellFormed.{WellFormed}
 use Rattle.survey.specs.declared.Findings.{Findings}
 use Rattle.survey.specs.Survey.{usedIn, rootOf}

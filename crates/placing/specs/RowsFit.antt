@@ -14,7 +14,7 @@ use Rattle.table.specs.Record.{Record, Used, free, slot, noSlot}
 use Rattle.table.specs.Table.{at}
 use Rattle.places.specs.Cases.{below-or, either}
 use Rattle.table.specs.Same.{past-free}
-use Rattle.table.specs.RoundTrip.{Fitting, FittingRow, record-fits}
+use Rattle.table.specs.Fitting.{Fitting, FittingRow, record-fits}
 use Rattle.survey.specs.Survey.{usedIn, largestTimestamp}
 use Rattle.survey.specs.Laws.{largest-late}
 use Rattle.tree.specs.Slots.{∈-decide}

@@ -10,7 +10,7 @@ use Rattle.table.specs.Record.{Record, Used}
 use Rattle.table.specs.Table.{at}
 use Rattle.survey.specs.Survey.{usedIn}
 use Rattle.places.specs.Cases.{either}
-use Rattle.view.specs.Survey.{usedIn-seen}
+use Rattle.survey.specs.Laws.{usedIn-seen}
 use Rattle.newcomer.specs.Newcomer.{Newcomer, brought, brought-is, brought-card}
 use Rattle.placing.specs.Place.Settled.{Ready, Settled, settled-new-used}
 

@@ -2,7 +2,7 @@
 // caller needs to know. Each returns the paper's refusal number, 0 if it was done; counts go to where the caller
 // points.
 ghost use mathlib.Core.Path.{_≡_};
-ghost use Rattle.table.specs.Clear.{Cleared, clearOf};
+ghost use Rattle.writing.specs.Clear.{Cleared, clearOf};
 ghost use Rattle.insert.specs.Insert.{insertOf};
 ghost use Rattle.refusals.specs.Outcome.{Outcome};
 ghost use Rattle.delete.specs.Delete.{deleteOf};
@@ -15,7 +15,7 @@ pub extern "C" fn plotvuga_clear(table: &mut [u8]) -> u32
     ensures { λ r.
         ⌜ _≡_ {A = Cleared} (record { refusal = r; table = now (table .exit) }) (clearOf (now (table .entry))) ⌝ }
 {
-    table::clear(table) as u32
+    writing::clear(table) as u32
 }
 
 #[no_mangle]

@@ -1,7 +1,7 @@
 // Parts of the library opened as C functions, for the comparison with the independent model. No part of the product.
 ghost use mathlib.Core.Path.{_≡_};
 ghost use Prim.Native.Nat.{_≤_};
-ghost use Rattle.table.specs.Clear.{Cleared, clearOf};
+ghost use Rattle.writing.specs.Clear.{Cleared, clearOf};
 ghost use Rattle.survey.specs.Survey.{usedIn, lowestFree, rootOf, kindOf, largestTimestamp};
 ghost use Rattle.probe.specs.Probe.{distanceProbe, judgeProbe, asked, slotQuestion};
 ghost use Rattle.probe.specs.Tells.{Tells, Small, Widened};
@@ -42,7 +42,7 @@ pub extern "C" fn probe_judge(t: &[u8]) -> u32
 pub extern "C" fn probe_clear(t: &mut [u8]) -> u32
     ensures { λ r. ⌜ _≡_ {A = Cleared} (record { refusal = r; table = now (t .exit) }) (clearOf (now (t .entry))) ⌝ }
 {
-    table::clear(t) as u32
+    writing::clear(t) as u32
 }
 
 // The answers to the small questions, as numbers of one width.

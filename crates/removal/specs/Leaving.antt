@@ -32,7 +32,8 @@ use Rattle.tree.specs.Remove.{except}
 use Rattle.view.specs.View.{viewOf}
 use Rattle.view.specs.Shaped.{Shaped}
 use Rattle.view.specs.Children.{children-length}
-use Rattle.view.specs.Survey.{usedIn-usedCount, usedIn-seen, rootOf-is}
+use Rattle.survey.specs.Laws.{usedIn-seen}
+use Rattle.view.specs.Survey.{usedIn-usedCount, rootOf-is}
 use Rattle.view.specs.Formed.{used-within, count-fits, formed-view}
 use Rattle.view.specs.Freed.{freed-length, freed-in, freed-out}
 use Rattle.removal.specs.Removal.{leaving, disowning, unhung, removed}

@@ -9,7 +9,7 @@ use Rattle.table.specs.Record.{Record, Used, recordOf, free, noSlot, children}
 use Rattle.table.specs.Table.{recordsIn, recordsOf, at}
 use Rattle.table.specs.Records.{records-length, records-in}
 use Rattle.table.specs.Stands.{Stands, stands-in}
-use Rattle.table.specs.Laws.{Became}
+use Rattle.writing.specs.Laws.{Became}
 use Rattle.tree.specs.Slots.{_∈_}
 use Rattle.tree.specs.View.Shape.{children-distinct}
 use Rattle.view.specs.Children.{children-length}

@@ -19,7 +19,8 @@ use Rattle.tree.specs.Remove.KeepsFormed.{removed-formed, removed-root}
 use Rattle.tree.specs.Remove.KeepsSound.{removed-sound}
 use Rattle.view.specs.View.{viewOf}
 use Rattle.view.specs.Shaped.{Shaped}
-use Rattle.view.specs.Survey.{kindOf-is, rootOf-is, usedIn-seen, usedIn-some}
+use Rattle.survey.specs.Laws.{usedIn-seen, usedIn-some}
+use Rattle.view.specs.Survey.{kindOf-is, rootOf-is}
 use Rattle.view.specs.Formed.{used-within, formed-table, free-formed}
 use Rattle.view.specs.Sound.{SoundTable, sound-at}
 use Rattle.removal.specs.Removal.{leaving, removed}

@@ -6,10 +6,11 @@ ghost use Rattle.refusals.specs.Limits.{mostChildren};
 ghost use Rattle.table.specs.Record.{recordOf, free};
 ghost use Rattle.table.specs.Stands.{Stands};
 ghost use Rattle.table.specs.Table.{recordsOf};
-ghost use Rattle.table.specs.Laws.{Became};
+ghost use Rattle.writing.specs.Put.{withSlots};
+ghost use Rattle.writing.specs.Laws.{Became};
 ghost use Rattle.removal.specs.Removal.{disowning, unhung};
 ghost use Rattle.removal.specs.Leaving.{Held};
-ghost use Rattle.removal.specs.Loop.Closing.{withSlots, closing, Hosts};
+ghost use Rattle.removal.specs.Loop.Closing.{closing, Hosts};
 use table::NO_SLOT;
 
 // The first n child slots of the record in slot p are closed up without v. At each turn those of the first k that stay
@@ -24,7 +25,7 @@ fn close_up(t: &mut [u8], p: usize, v: usize, n: usize)
     while k < n {
         let c = table::slot_of(t, p, k);
         if c as usize != v {
-            table::put_slot(t, p, w, c);
+            writing::put_slot(t, p, w, c);
             w += 1;
         }
         k += 1;
@@ -38,8 +39,8 @@ fn disown(t: &mut [u8], p: usize, v: usize)
 {
     let n = table::count_of(t, p);
     close_up(t, p, v, n as usize);
-    table::put_slot(t, p, n as usize - 1, NO_SLOT);
-    table::put_count(t, p, n - 1);
+    writing::put_slot(t, p, n as usize - 1, NO_SLOT);
+    writing::put_count(t, p, n - 1);
 }
 
 // The record in slot v leaves its parent, if it has one, and becomes free.
@@ -51,5 +52,5 @@ pub fn unhang(t: &mut [u8], v: usize)
     if p != NO_SLOT {
         disown(t, p as usize, v);
     }
-    table::clear_record(t, v);
+    writing::clear_record(t, v);
 }

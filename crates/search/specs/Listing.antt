@@ -16,9 +16,9 @@ use Rattle.distance.specs.Laws.{farthest}
 use Rattle.distance.specs.Signature.{Fit}
 use Rattle.distance.specs.Kind.{apart, apart-distance}
 use Rattle.table.specs.Record.{Record, recordOf}
+use Rattle.table.specs.Stands.{right-most}
 use Rattle.table.specs.Table.{recordsIn}
-use Rattle.table.specs.Size.{whole}
-use Rattle.table.specs.RoundTrip.{record-fits}
+use Rattle.table.specs.Fitting.{record-fits}
 use Rattle.survey.specs.Survey.{usedIn, rootOf}
 use Rattle.survey.specs.Laws.{usedIn-most}
 use Rattle.tree.specs.Slots.{keep}
@@ -31,10 +31,10 @@ use Rattle.view.specs.View.{viewOf}
 use Rattle.refusals.specs.Refusal.{done}
 use Rattle.view.specs.Survey.{usedIn-usedCount}
 use Rattle.search.specs.Search.{outcome, noBound, entered, cards, distances, listing}
-use Rattle.walk.specs.Step.{asked}
-use Rattle.walk.specs.Loop.Children.{enteredFrom}
-use Rattle.walk.specs.Loop.State.{state, after, walked}
-use Rattle.admission.specs.Admission.{Readable}
+use Rattle.steps.specs.Step.{asked}
+use Rattle.steps.specs.Loop.Children.{enteredFrom}
+use Rattle.walk.specs.State.{state, after, walked}
+use Rattle.judge.specs.Readable.{Readable}
 use Rattle.view.specs.Readable.{readable-seen}
 
 -- ---- the table
@@ -169,5 +169,5 @@ module _ {l : List ℕ} (ok : Readable l) (bytes : Bytes l) (kind : ℕ) (q : Li
   walk-fits = (
     cards-fit (recordsIn l) (recordOf l) kind q r (readable-seen ok),
     distances-fit (recordsIn l) (recordOf l) kind q r (readable-seen ok),
-    omega (arith, usedIn-most (recordsIn l) (recordOf l), whole (length l) (ok .size) .1),
+    omega (arith, usedIn-most (recordsIn l) (recordOf l), right-most l (ok .size)),
   )

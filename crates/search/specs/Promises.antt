@@ -20,7 +20,7 @@ use Rattle.view.specs.View.{viewOf}
 use Rattle.refusals.specs.Refusal.{done}
 use Rattle.view.specs.Formed.{used-within}
 use Rattle.view.specs.Sound.{SoundTable}
-use Rattle.view.specs.Survey.{usedIn-seen}
+use Rattle.survey.specs.Laws.{usedIn-seen}
 use Rattle.search.specs.Search.{outcome, cards, refusalOf, listing, searchOf}
 use Rattle.view.specs.Readable.{readable-seen, readable-shaped}
 use Rattle.search.specs.Tests.{accepted}

@@ -15,7 +15,8 @@ use Rattle.survey.specs.Survey.{usedIn, kindOf}
 use Rattle.refusals.specs.Refusal.{Test, ARGUMENT, KIND, SHORT, firstOf, done}
 use Rattle.refusals.specs.First.{first-append, first-none}
 use Rattle.refusals.specs.Limits.{signatureLength}
-use Rattle.admission.specs.Admission.{Readable, admissionTests, admitted-readable}
+use Rattle.judge.specs.Readable.{Readable}
+use Rattle.admission.specs.Admission.{admissionTests, admitted-readable}
 use Rattle.admission.specs.Query.{knownQuery, otherKind, query-length, query-kind}
 use Rattle.search.specs.Search.{refusalOf}
 

@@ -7,7 +7,8 @@ ghost use Rattle.distance.specs.Signature.{Fit};
 ghost use Rattle.table.specs.Record.{recordOf};
 ghost use Rattle.table.specs.Table.{recordsIn};
 ghost use Rattle.survey.specs.Survey.{usedIn, rootOf};
-ghost use Rattle.admission.specs.Admission.{Admits, Readable};
+ghost use Rattle.judge.specs.Readable.{Readable};
+ghost use Rattle.admission.specs.Admission.{Admits};
 ghost use Rattle.search.specs.Search.{outcome, refusalOf, listingOf, searchOf};
 use admission::Admitted;
 use admission::query::known_query;
@@ -74,7 +75,7 @@ fn accepted(
             found: 0,
         };
     }
-    let away = walk::away_from(t, kind, q, root);
+    let away = steps::away_from(t, kind, q, root);
     let start = Reached { found: 0, count: 1 };
     let r = walk::walk(t, kind, q, radius, list, root, away, NO_BOUND, start, used);
     Found {

@@ -15,7 +15,8 @@ use Rattle.table.specs.Record.{recordOf}
 use Rattle.table.specs.Table.{rightSize, recordsIn}
 use Rattle.table.specs.Stands.{right-are, right-most}
 use Rattle.judge.specs.Decided.{formed-decided}
-use Rattle.admission.specs.Admission.{admissionTests, Readable, admitted-readable}
+use Rattle.judge.specs.Readable.{Readable}
+use Rattle.admission.specs.Admission.{admissionTests, admitted-readable}
 use Rattle.view.specs.Shaped.{shaped-bytes}
 use Rattle.view.specs.Readable.{readable-formed, readable-shaped}
 use Rattle.view.specs.Sound.{SoundTable}

@@ -22,7 +22,8 @@ use Rattle.tree.specs.View.{usedCount, Below, down, Formed, Sound}
 use Rattle.tree.specs.View.Under.{under, under-is, under-from, under-to, used-shallow}
 use Rattle.view.specs.View.{viewOf}
 use Rattle.view.specs.Shaped.{Shaped}
-use Rattle.view.specs.Survey.{usedIn-usedCount, usedIn-none}
+use Rattle.survey.specs.Laws.{usedIn-none}
+use Rattle.view.specs.Survey.{usedIn-usedCount}
 use Rattle.view.specs.Formed.{formed-view}
 use Rattle.view.specs.Sound.{SoundTable, sound-free}
 use Rattle.soundness.specs.Soundness.{allIn, below, between, allCovered, allNear, isSound}

@@ -23,7 +23,8 @@ use Rattle.tree.specs.View.Shape.{below-child, below-parent, below-hung, below-
 use Rattle.tree.specs.View.Under.{used-shallow}
 use Rattle.view.specs.View.{viewOf}
 use Rattle.view.specs.Shaped.{Shaped}
-use Rattle.view.specs.Survey.{usedIn-usedCount, kindOf-is, usedIn-none}
+use Rattle.survey.specs.Laws.{usedIn-none}
+use Rattle.view.specs.Survey.{usedIn-usedCount, kindOf-is}
 use Rattle.view.specs.Children.{children-at, slot-child, standing-child}
 use Rattle.view.specs.Formed.{count-fits}
 use Rattle.soundness.specs.Soundness.{isSound}

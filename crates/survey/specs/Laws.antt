@@ -3,9 +3,11 @@ use Prim.Native.Nat.{ℕ, zero, suc, _≤_, _<_, max}
 use mathlib.Core.Path.{_≡_, refl, ap, sym, _∙_}
 use mathlib.Core.Bool.{Bool, true, false, _&&_, not, false≢true}
 use native.Mathlib.Omega.{arith}
+use native.Mathlib.Decide.{ℕ-discrete}
 use lib.Dec.{eqb}
 use borrow.Author.Tests.{leb-true, leb-false, le-leb, lt-leb, eqb-true, eqb-false, eq-eqb, ne-eqb, not-true, not-false}
 use Rattle.places.specs.Choice.{pick, and-left, and-right, and-both}
+use Rattle.places.specs.Count.{some-counted, seen-counted}
 use Rattle.places.specs.Test.{count-most}
 use Rattle.places.specs.Cases.{below-or, equal-or}
 use Rattle.table.specs.Record.{Record, Used, used, noSlot}
@@ -20,6 +22,20 @@ module _ (n : ℕ) (R : ℕ → Record) where
   pub usedIn-most : usedIn n R ≤ n
   unfolding usedIn
   usedIn-most = count-most n (λ s. used (R s))
+
+  pub usedIn-seen : (s : ℕ) → s < n → Used (R s) → 1 ≤ usedIn n R
+  unfolding usedIn
+  usedIn-seen s b u = seen-counted n (λ a. used (R a)) s b (le-leb 1 (R s .card) u)
+
+  pub usedIn-some : 1 ≤ usedIn n R → (s : ℕ) × (s < n) × Used (R s)
+  unfolding usedIn
+  usedIn-some h = let z = some-counted n (λ a. used (R a)) h in (z .0, z .1, leb-true 1 (R (z .0) .card) (z .2))
+
+  pub usedIn-none : usedIn n R ≡ 0 → (s : ℕ) → s < n → R s .card ≡ 0
+  usedIn-none e s b = elim (ℕ-discrete (R s .card) 0) [
+    | yes z ↦ z
+    | no ne ↦ absurd (omega (arith, usedIn-seen s b (omega arith)))
+  ]
 
   -- ---- the slot of a card
 
@@ -198,3 +214,23 @@ largest-in-use (suc n) R h = on (used (R n)) refl (largest-in-use n R) h
         (λ q. earlier (max (R n .timestamp) (largestTimestamp n R)) (omega arith) h′ rest)
         (λ q. (n, omega arith, leb-true 1 (R n .card) e, omega arith))
     on false e rest h′ = earlier (max 0 (largestTimestamp n R)) (omega arith) h′ rest
+
+module _ (R : ℕ → Record) where
+  pub largest-at-most :
+      (n t : ℕ) → ((s : ℕ) → s < n → Used (R s) → R s .timestamp ≤ t) → largestTimestamp n R ≤ t
+  largest-at-most n t h =
+      below-or
+      0
+      (largestTimestamp n R)
+      (λ b. let z = largest-in-use n R (omega arith) in omega (arith, z .3, h (z .0) (z .1) (z .2)))
+      (λ b. omega arith)
+
+  -- it is the timestamp of a used record that no other is younger than
+  pub largest-is :
+      (n s t : ℕ)
+      → s < n
+      → Used (R s)
+      → R s .timestamp ≡ t
+      → ((a : ℕ) → a < n → Used (R a) → R a .timestamp ≤ t)
+      → largestTimestamp n R ≡ t
+  largest-is n s t b u e h = omega (arith, largest-late n R s b u, largest-at-most n t h)

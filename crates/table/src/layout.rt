@@ -1,7 +1,5 @@
 // How a table is laid out: the bytes of a record, and where each field starts in its record. These numbers stand here
 // and nowhere else in code. The record in slot s starts at s * RECORD.
-ghost use mathlib.Core.Path.{_≡_};
-ghost use Rattle.table.specs.Table.{recordsIn};
 
 // The parent's slot of a root, and a child slot past the count.
 pub const NO_SLOT: u16 = 65535;
@@ -26,10 +24,3 @@ pub const KIND: usize = 15;
 pub const SLOTS: usize = 16;
 
 pub const SIGNATURE: usize = 32;
-
-// How many records the table has.
-pub fn records_in(t: &[u8]) -> usize
-    ensures { λ r. ⌜ r ≡ recordsIn (now (t .entry)) ⌝ }
-{
-    t.len() / RECORD
-}

@@ -1,12 +1,10 @@
-// The record and the table in lent bytes.
-mod layout;
+// The record and the table in lent bytes: how they are laid out, and how they are read.
+pub mod layout;
 mod read;
 mod size;
-mod write;
 
 pub use layout::NO_SLOT;
 pub use layout::RECORD;
-pub use layout::records_in;
 pub use read::away_from;
 pub use read::card_of;
 pub use read::child_of;
@@ -20,14 +18,5 @@ pub use read::radius_of;
 pub use read::signature_of;
 pub use read::slot_of;
 pub use read::timestamp_of;
-pub use size::clear;
+pub use size::records_in;
 pub use size::right_size;
-pub use write::clear_record;
-pub use write::put_card;
-pub use write::put_count;
-pub use write::put_kind;
-pub use write::put_parent;
-pub use write::put_radius;
-pub use write::put_signature;
-pub use write::put_slot;
-pub use write::put_timestamp;

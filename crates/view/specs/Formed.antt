@@ -29,7 +29,8 @@ use Rattle.view.specs.Children.{
   rising-from,
   rising-at,
 }
-use Rattle.view.specs.Survey.{usedIn-seen, rootOf-is}
+use Rattle.survey.specs.Laws.{usedIn-seen}
+use Rattle.view.specs.Survey.{rootOf-is}
 
 -- ---- each record is free or used
 

@@ -19,7 +19,7 @@ use Rattle.table.specs.Stands.{
 use Rattle.judge.specs.WellFormed.{WellFormed}
 use Rattle.judge.specs.Decided.{formed-decided}
 use Rattle.survey.specs.Survey.{usedIn, rootOf}
-use Rattle.admission.specs.Admission.{Readable}
+use Rattle.judge.specs.Readable.{Readable}
 use Rattle.places.specs.Cases.{either}
 use Rattle.tree.specs.View.{Formed}
 use Rattle.view.specs.View.{viewOf}

@@ -15,7 +15,8 @@ use Rattle.places.specs.Cases.{either}
 use Rattle.tree.specs.View.{Sound}
 use Rattle.view.specs.View.{viewOf}
 use Rattle.view.specs.Shaped.{Shaped}
-use Rattle.view.specs.Survey.{usedIn-some, kindOf-is}
+use Rattle.survey.specs.Laws.{usedIn-some}
+use Rattle.view.specs.Survey.{kindOf-is}
 use Rattle.view.specs.Formed.{none-used}
 
 pub record SoundTable (n : ℕ) (R : ℕ → Record) : Type 0 where

@@ -15,10 +15,10 @@ use Rattle.tree.specs.Search.{listed}
 use Rattle.tree.specs.Search.Finds.{listed-append}
 use Rattle.view.specs.View.{viewOf}
 use Rattle.walk.specs.declared.Reached.{Reached}
-use Rattle.walk.specs.Step.{Query, awayIn, cardWithin}
-use Rattle.walk.specs.Loop.Children.{restFrom}
-use Rattle.walk.specs.Loop.State.{State, state, stateOf, Fits, listedOf, after, noted, walked}
-use Rattle.walk.proofs.Children.{entersAt, count-length, visit-in}
+use Rattle.steps.specs.Step.{Query, awayIn, cardWithin}
+use Rattle.steps.specs.Loop.Children.{restFrom}
+use Rattle.walk.specs.State.{State, state, stateOf, Fits, listedOf, after, noted, walked}
+use Rattle.steps.specs.Loop.Laws.{entersAt, count-length, visit-in}
 
 pub same-parts :
     {l l′ : List ℕ} {f f′ c c′ : ℕ}

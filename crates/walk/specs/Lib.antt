@@ -1,3 +1,2 @@
--- The walk of a range search: the paper's steps, asked of one record, and, in Loop, what the code's loops are held to.
-pub mod Step
-pub mod Loop
+-- Loop: what the walk of a range search is held to, in the order in which the code works.
+pub mod State

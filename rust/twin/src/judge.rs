@@ -1,4 +1,5 @@
-//! Whether a table is well formed: one pass over the records, counting links, then cards and timestamps told apart.
+//! Whether a table is well formed: one pass over the records, counting links, then cards told apart, and timestamps
+//! unless they rise with the slots.
 
 use crate::record::{
     card, child_slots, count, kind, parent, records, timestamp, Record, CHILD_SLOTS, MOST_RECORDS, NO_SLOT, RECORD,
@@ -27,6 +28,8 @@ pub fn judge(table: &[u8]) -> Option<Survey> {
     let table = records(table);
     let mut survey = Survey { used: 0, root: 0, kind: 0, youngest: 0 };
     let (mut roots, mut links) = (0, 0);
+    // Timestamps that rise with the slots are different by that alone.
+    let mut rising = true;
     for (slot, record) in table.iter().enumerate() {
         if card(record) == 0 {
             if record.iter().any(|byte| *byte != 0) {
@@ -45,6 +48,7 @@ pub fn judge(table: &[u8]) -> Option<Survey> {
             survey.root = slot;
         }
         links += count(record);
+        rising &= survey.youngest < timestamp(record);
         survey.youngest = survey.youngest.max(timestamp(record));
         survey.used += 1;
     }
@@ -52,7 +56,7 @@ pub fn judge(table: &[u8]) -> Option<Survey> {
     if used > 0 && (roots != 1 || links != used - 1) {
         return None;
     }
-    (all_distinct(table, card) && all_distinct(table, timestamp)).then_some(survey)
+    (all_distinct(table, card) && (rising || all_distinct(table, timestamp))).then_some(survey)
 }
 
 fn own_fields_are_right(record: &Record, first_kind: u8) -> bool {

@@ -30,7 +30,7 @@ use Rattle.placing.specs.Place.{Placed}
 use Rattle.newcomer.specs.Newcomer.{brought}
 use Rattle.placing.specs.Hang.{Hangable, leaves}
 use Rattle.placing.specs.Hangable.{hangable}
-use Rattle.back.specs.Age.{slotIn}
+use Rattle.age.specs.Age.{slotIn}
 use Rattle.back.specs.Back.{putBack, putBack-same}
 use Rattle.view.specs.Freed.{freedAt, freed-none, freed-out}
 use Rattle.back.specs.Returned.{returnable-few}

@@ -16,7 +16,7 @@ use Rattle.refusals.specs.Limits.{mostChildren}
 use Rattle.table.specs.Record.{Record, Used, free, recordOf, noSlot}
 use Rattle.table.specs.Table.{recordsOf, at}
 use Rattle.table.specs.Stands.{Stands, in-stands}
-use Rattle.table.specs.Laws.{Became, records-with}
+use Rattle.writing.specs.Laws.{Became, records-with}
 use Rattle.survey.specs.Survey.{usedIn, rootOf, largestTimestamp}
 use Rattle.survey.specs.Laws.{usedIn-most}
 use Rattle.tree.specs.Slots.{_∈_, ∈-decide}

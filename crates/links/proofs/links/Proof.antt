@@ -4,7 +4,8 @@ use mathlib.Core.Bool.{true}
 use mathlib.Core.Path.{_≡_, refl}
 use Rattle.table.specs.Record.{recordOf}
 use Rattle.links.specs.Floors.{firstFloors, lastFloors}
-use Rattle.links.specs.Loop.Seen.{SeenBefore, seen-none, ended-whole, ended-early}
+use Rattle.links.specs.Loop.Seen.{SeenBefore, ended-whole, ended-early}
+use Rattle.links.specs.Loop.Turn.{seen-none}
 use native.Mathlib.Omega.{arith}
 use borrow.Author.Needs.{needs}
 use borrow.Author.Tests.{not-true, not-false}
@@ -61,7 +62,6 @@ returns c =
     (recordOf (a .t .now))
     (looked .look .result)
     (within .before .loop .s)
-    (omega (arith, within .loop-test))
     (looked .look .ensures)
     (not-true (looked .look .result .fit) (c .if1 .taken))
 

@@ -1,22 +1,22 @@
--- `links::look` meets its contract: a record that does not fit ends the look, one without card adds its slot, and any
--- other its own numbers. Assumes nothing.
-use Prim.Native.Nat.{ℕ, _≤_}
+-- `links::look` meets its contract: a record that does not fit, or a second root, ends the look, a record without card
+-- adds its slot, and any other its own numbers. Assumes nothing.
+use Prim.Native.Nat.{ℕ, _+_}
 use mathlib.Core.Path.{_≡_, refl, sym, _∙_}
-use mathlib.Core.Bool.{Bool, true, false}
-use lib.Dec.{eqb}
-use Rattle.table.specs.Record.{Record, Used, recordOf, noSlot}
+use Rattle.table.specs.Record.{Record, Used, recordOf}
 use Rattle.table.specs.Stands.{Stands, stands-below}
-use Rattle.links.specs.Loop.Seen.{
-  seen-most,
+use Rattle.judge.specs.WellFormed.{isRoot}
+use Rattle.links.specs.Loop.Found.{OneBefore}
+use Rattle.links.specs.Loop.Seen.{SeenBefore, withFree, withUsed, looked-unfit, looked-fit}
+use Rattle.links.specs.Loop.Turn.{
   seen-left,
   seen-free,
   seen-used,
   free-unfit,
   kind-unfit,
   record-unfit,
-  looked-unfit,
-  looked-fit,
-  byte-most,
+  root-still,
+  root-here,
+  root-twice,
   told,
 }
 use native.Mathlib.Omega.{arith}
@@ -25,7 +25,8 @@ use borrow.Author.Tests.{not-true, not-false}
 use Rattle.links.proofs.look.Statement.{statement}
 use Rattle.links.proofs.look.Tie as tie
 
--- ---- stations: the start, where the card is read; that place, where the timestamp is; and that, where the kind fits
+-- ---- stations: the start, where the card is read; that place, where the timestamp is; that, where the kind fits; and
+-- the start again, where the parent is read
 
 abbrev start : tie.After-card-of → tie.Start
 start c = c .before .before
@@ -42,6 +43,9 @@ timed c = c .before .before .before
 abbrev like : tie.After-parent-of → tie.Else3
 like c = c .before .before .before
 
+abbrev begun : tie.After-parent-of → tie.Start
+begun c = start (carded (timed (like c)))
+
 abbrev records : tie.Start → ℕ → Record
 records b = recordOf (b .args .t .now)
 
@@ -53,9 +57,32 @@ here b = stands-below (b .args .t .now) (b .args .n) (b .args .s) (b .pre .1 .0)
 in-use : (c : tie.Else1) → Used (records (start (c .before)) (start (c .before) .args .s))
 in-use c = omega (arith, c .before .card-of .ensures, c .if1 .left)
 
--- no more are roots than the slots before s
-most : (b : tie.Start) → b .args .seen .roots ≤ b .args .s
-most b = seen-most (b .args .n) (records b) (b .args .s) (b .args .seen) (b .pre .1 .3)
+-- a used record that fits is seen too, with the root where it then is
+used-too :
+    (c : tie.After-parent-of) (root : ℕ) →
+    let b = begun c in
+    let read = timed (like c) in
+    OneBefore (isRoot (records b)) (b .args .n) (b .args .s + 1) root
+    → SeenBefore (b .args .n) (records b) (b .args .s + 1)
+    (withUsed (b .args .seen) (kinded read .kind-of .result) (read .before .count-of .result)
+    (read .timestamp-of .result) root)
+used-too c root =
+    let b = begun c in
+    let read = timed (like c) in
+    let tested = c .before .before in
+    seen-used (b .args .n) (records b) (b .args .s) (b .args .seen) (b .pre .1 .3)
+    (kinded read .kind-of .result)
+    (read .before .count-of .result)
+    (read .timestamp-of .result)
+    root
+    (b .pre .1 .2)
+    (in-use (kinded read .before))
+    (like c .if3 .left)
+    (sym (tested .record-ok .ensures) ∙ not-false (tested .record-ok .result) (c .before .if4 .left))
+    (kinded read .kind-of .ensures)
+    (read .before .count-of .ensures)
+    (read .timestamp-of .ensures)
+    (omega (arith, read .before .count-of .ok))
 
 -- ---- needs
 
@@ -74,14 +101,13 @@ returns c =
     let b = start (read .before .before) in
     let free = told (b .args .t .now) (b .args .s) (read .is-free .result) (read .is-free .ensures) in
     let none = sym (read .before .before .card-of .ensures) ∙ read .before .if1 .taken in
-    looked-unfit (b .args .n) (records b) (b .args .s) (c .misfit .result)
-    (b .args .seen) (b .pre .1 .2) (b .pre .1 .3)
-    (free-unfit (b .args .n) (records b) (b .args .s) none
+    looked-unfit (b .args .n) (records b) (b .args .s) (c .misfit .result) (b .args .seen)
+    (free-unfit (b .args .n) (records b) (b .args .s) (b .pre .1 .2) none
     (sym free ∙ not-true (read .is-free .result) (c .before .if2 .taken)))
     (c .misfit .ensures)
 
-sub-t15 : tie.Need-sub-t15
-sub-t15 c =
+sub-t14 : tie.Need-sub-t14
+sub-t14 c =
     let b = start (c .before .before .before .before) in
     seen-left (b .args .n) (records b) (b .args .s) (b .args .seen) (b .pre .1 .3) (b .pre .1 .2)
 
@@ -94,13 +120,14 @@ returns-2 c =
     let b = start (read .before .before) in
     let free = told (b .args .t .now) (b .args .s) (read .is-free .result) (read .is-free .ensures) in
     let none = sym (read .before .before .card-of .ensures) ∙ read .before .if1 .taken in
-    looked-fit (b .args .n) (records b) (b .args .s) _ refl
+    looked-fit (b .args .n) (records b) (b .args .s) _ (withFree (b .args .seen) (c .earlier .result)) refl
     (seen-free (b .args .n) (records b) (b .args .s) (b .args .seen) (b .pre .1 .3)
     (c .earlier .result)
     (b .pre .1 .2)
     none
     (sym free ∙ not-false (read .is-free .result) (c .before .before .if2 .left))
     (c .earlier .ensures))
+    refl
 
 kind-of-requires : tie.Need-kind-of-requires
 kind-of-requires c κs = here (start (c .before))
@@ -119,10 +146,9 @@ returns-3 c =
     let read = c .before .before .before .before in
     let b = start (carded read) in
     let kind = kinded read .kind-of in
-    looked-unfit (b .args .n) (records b) (b .args .s) (c .misfit2 .result)
-    (b .args .seen) (b .pre .1 .2) (b .pre .1 .3)
+    looked-unfit (b .args .n) (records b) (b .args .s) (c .misfit2 .result) (b .args .seen)
     (kind-unfit (b .args .n) (records b) (b .args .s) (b .args .seen) (b .pre .1 .3)
-    (kind .result) (in-use (kinded read .before)) (kind .ensures) (c .before .if3 .taken))
+    (kind .result) (b .pre .1 .2) (in-use (kinded read .before)) (kind .ensures) (c .before .if3 .taken))
     (c .misfit2 .ensures)
 
 record-ok-requires : tie.Need-record-ok-requires
@@ -142,66 +168,68 @@ returns-4 c =
     let tested = c .before .before in
     let read = timed (tested .before) in
     let b = start (carded read) in
-    looked-unfit (b .args .n) (records b) (b .args .s) (c .misfit3 .result)
-    (b .args .seen) (b .pre .1 .2) (b .pre .1 .3)
-    (record-unfit (b .args .n) (records b) (b .args .s) (in-use (kinded read .before))
+    looked-unfit (b .args .n) (records b) (b .args .s) (c .misfit3 .result) (b .args .seen)
+    (record-unfit (b .args .n) (records b) (b .args .s) (b .pre .1 .2) (in-use (kinded read .before))
     (sym (tested .record-ok .ensures) ∙ not-true (tested .record-ok .result) (c .before .if4 .taken)))
     (c .misfit3 .ensures)
 
 parent-of-requires : tie.Need-parent-of-requires
 parent-of-requires c κs = here (start (carded (timed (c .before .before))))
 
-cast-t20 : tie.Need-cast-t20
-cast-t20 c = search needs
-
-add-t21 : tie.Need-add-t21
-add-t21 c =
-    let hung = c .before in
-    let b = start (carded (timed (like hung))) in
-    omega (arith, most b, b .pre .1 .1, b .pre .1 .2, byte-most (eqb (hung .parent-of .result) noSlot))
-
-cast-t22 : tie.Need-cast-t22
-cast-t22 c = search needs
-
-add-t23 : tie.Need-add-t23
-add-t23 c =
-    let hung = c .before .before in
-    let read = timed (like hung) in
-    let b = start (carded read) in
-    omega (arith, b .pre .1 .3 .few, b .pre .1 .1, b .pre .1 .2, read .before .count-of .ok)
-
-larger-requires : tie.Need-larger-requires
-larger-requires c κs = search needs
-
-one-of-requires : tie.Need-one-of-requires
-one-of-requires c κs = search needs
+with-used-requires : tie.Need-with-used-requires
+with-used-requires c κs =
+    let b = begun (c .before) in
+    omega (arith, b .pre .1 .3 .few, b .pre .1 .1, b .pre .1 .2)
 
 returns-5 : tie.Need-returns-5
 returns-5 c =
-    let larger = c .before in
-    let hung = larger .before .before .before in
-    let read = timed (like hung) in
-    let b = start (carded read) in
-    let tested = hung .before .before in
-    looked-fit (b .args .n) (records b) (b .args .s) _ refl
-    (seen-used (b .args .n) (records b) (b .args .s) (b .args .seen) (b .pre .1 .3)
-    (kinded read .kind-of .result)
-    (read .before .count-of .result)
+    let hung = c .before .before in
+    let b = begun hung in
+    looked-fit (b .args .n) (records b) (b .args .s) (c .with-used .result) _ refl
+    (used-too hung (b .args .seen .root)
+    (root-still (b .args .n) (records b) (b .args .s) (b .args .seen) (b .pre .1 .3)
     (hung .parent-of .result)
-    (read .timestamp-of .result)
-    (larger .larger .result)
-    (c .one-of .result)
-    (b .pre .1 .2)
-    (in-use (kinded read .before))
-    (like hung .if3 .left)
-    (sym (tested .record-ok .ensures) ∙ not-false (tested .record-ok .result) (hung .before .if4 .left))
-    (kinded read .kind-of .ensures)
-    (read .before .count-of .ensures)
+    (in-use (kinded (timed (like hung)) .before))
     (hung .parent-of .ensures)
-    (read .timestamp-of .ensures)
-    (omega (arith, read .before .count-of .ok))
-    (larger .larger .ensures)
-    (c .one-of .ensures))
+    (c .before .if5 .taken)))
+    (c .with-used .ensures)
+
+misfit-requires-4 : tie.Need-misfit-requires-4
+misfit-requires-4 c κs = search needs
+
+returns-6 : tie.Need-returns-6
+returns-6 c =
+    let hung = c .before .before .before .before in
+    let b = begun hung in
+    looked-unfit (b .args .n) (records b) (b .args .s) (c .misfit4 .result) (b .args .seen)
+    (root-twice (b .args .n) (records b) (b .args .s) (b .args .seen) (b .pre .1 .3)
+    (hung .parent-of .result)
+    (b .pre .1 .2)
+    (in-use (kinded (timed (like hung)) .before))
+    (hung .parent-of .ensures)
+    (c .before .before .before .if5 .left)
+    (c .before .if6 .taken))
+    (c .misfit4 .ensures)
+
+with-used-requires-2 : tie.Need-with-used-requires-2
+with-used-requires-2 c κs =
+    let b = begun (c .before .before .before) in
+    omega (arith, b .pre .1 .3 .few, b .pre .1 .1, b .pre .1 .2)
+
+returns-7 : tie.Need-returns-7
+returns-7 c =
+    let hung = c .before .before .before .before in
+    let b = begun hung in
+    looked-fit (b .args .n) (records b) (b .args .s) (c .with-used2 .result) _ refl
+    (used-too hung (b .args .s)
+    (root-here (b .args .n) (records b) (b .args .s) (b .args .seen) (b .pre .1 .3)
+    (hung .parent-of .result)
+    (b .pre .1 .2)
+    (in-use (kinded (timed (like hung)) .before))
+    (hung .parent-of .ensures)
+    (c .before .before .before .if5 .left)
+    (c .before .if6 .left)))
+    (c .with-used2 .ensures)
 
 pub look-spec : {M : Type 1} → statement M
 look-spec =
@@ -211,7 +239,7 @@ look-spec =
     is-free-requires
     misfit-requires
     returns
-    sub-t15
+    sub-t14
     earlier-requires
     returns-2
     kind-of-requires
@@ -223,10 +251,9 @@ look-spec =
     misfit-requires-3
     returns-4
     parent-of-requires
-    cast-t20
-    add-t21
-    cast-t22
-    add-t23
-    larger-requires
-    one-of-requires
-    returns-5)
+    with-used-requires
+    returns-5
+    misfit-requires-4
+    returns-6
+    with-used-requires-2
+    returns-7)

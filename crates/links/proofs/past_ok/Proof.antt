@@ -8,7 +8,7 @@ use lib.Dec.{leb}
 use lib.ListN.{getD}
 use Rattle.number.specs.Frame.{Bytes}
 use Rattle.table.specs.Record.{recordOf, slot}
-use Rattle.table.specs.RoundTrip.{record-fits}
+use Rattle.table.specs.Fitting.{record-fits}
 use Rattle.links.specs.Floors.{firstFloors, lastFloors, past-told}
 use native.Mathlib.Omega.{arith}
 use borrow.Author.Needs.{needs}

@@ -1,13 +1,17 @@
--- Loop: the first slot and the last slot that pass a test, among those before s, as a pass finds them. A slot that is
--- not found is n, the number of slots. Assumes nothing.
+-- Loop: the first slot that passes a test, and the one slot that does, among those before s, as a pass finds them. A
+-- slot that is not found is n, the number of slots. Assumes nothing.
 use Prim.Native.Nat.{ℕ, _+_, _≤_, _<_, min}
-use mathlib.Core.Path.{_≡_, refl, sym}
+use mathlib.Core.Path.{_≡_, refl, sym, ap, _∙_}
 use mathlib.Core.Bool.{Bool, true, false}
 use mathlib.Core.Logic.{_⊎_, inl, inr}
 use native.Mathlib.Omega.{arith}
+use lib.Dec.{ltb}
+use mir.Val.{boolByte}
 use borrow.Author.Count.{below-more}
+use borrow.Author.Tests.{lt-ltb, le-ltb}
 use Rattle.places.specs.Choice.{pick}
 use Rattle.places.specs.Cases.{below-or, equal-or}
+use Rattle.places.specs.Test.{countTo, count-more, count-still, count-grows}
 use Rattle.survey.specs.Survey.{firstFrom}
 use Rattle.survey.specs.First.{first-is}
 
@@ -17,9 +21,14 @@ pub record FirstBefore (p : ℕ → Bool) (n s a : ℕ) : Type 0 where
   pub passes : a < s → p a ≡ true
   pub missing : s ≤ a → a ≡ n
 
--- a is the last of them
-abbrev pub LastBefore : (ℕ → Bool) → ℕ → ℕ → ℕ → Type 0
-LastBefore p n s a = ((a ≡ n) × ((j : ℕ) → j < s → p j ≡ false)) ⊎ ((a < s) × (p a ≡ true))
+-- a is one of them, if any passes
+abbrev pub SomeBefore : (ℕ → Bool) → ℕ → ℕ → ℕ → Type 0
+SomeBefore p n s a = ((a ≡ n) × ((j : ℕ) → j < s → p j ≡ false)) ⊎ ((a < s) × (p a ≡ true))
+
+-- a is the only one of them
+pub record OneBefore (p : ℕ → Bool) (n s a : ℕ) : Type 0 where
+  pub some : SomeBefore p n s a
+  pub many : countTo s p ≡ boolByte (ltb a n)
 
 module _ (p : ℕ → Bool) (n : ℕ) where
   pub first-start : FirstBefore p n 0 n
@@ -30,8 +39,13 @@ module _ (p : ℕ → Bool) (n : ℕ) where
         missing = λ l. omega arith;
       }
 
-  pub last-start : LastBefore p n 0 n
-  last-start = inl (omega arith, λ j l. absurd (omega arith))
+  pub one-start : OneBefore p n 0 n
+  unfolding countTo
+  one-start =
+      record {
+        some = inl (refl, λ j l. absurd (omega arith));
+        many = ap boolByte (sym (le-ltb n n (omega arith)));
+      }
 
   module _ (s a : ℕ) where
     -- slot s does not pass
@@ -56,10 +70,38 @@ module _ (p : ℕ → Bool) (n : ℕ) where
           missing = λ l. absurd (omega arith);
         }
 
-    pub last-turn : (t : Bool) → p s ≡ t → LastBefore p n s a → LastBefore p n (s + 1) (pick t s a)
-    last-turn true e l = inr (omega arith, e)
-    last-turn false e (inl h) = inl (h .0, below-more (λ (j : ℕ). p j ≡ false) s (h .1) e)
-    last-turn false e (inr h) = inr (omega (arith, h .0), h .1)
+    -- slot s does not pass
+    pub one-still : p s ≡ false → OneBefore p n s a → OneBefore p n (s + 1) a
+    one-still e f =
+        record {
+          some = still (f .some);
+          many = sym (count-still s (countTo s p) p refl e) ∙ f .many;
+        }
+      where
+        still : SomeBefore p n s a → SomeBefore p n (s + 1) a
+        still (inl h) = inl (h .0, below-more (λ (j : ℕ). p j ≡ false) s (h .1) e)
+        still (inr h) = inr (omega (arith, h .0), h .1)
+
+    -- slot s is the first that does
+    pub one-here : s < n → n ≤ a → p s ≡ true → OneBefore p n s a → OneBefore p n (s + 1) s
+    one-here b none e f =
+        record {
+          some = inr (omega arith, e);
+          many =
+              sym (count-more s (countTo s p) 1 p refl (sym (ap (λ (t : Bool). pick {A = ℕ} t 1 0) e)))
+              ∙ ap (λ (k : ℕ). k + 1) (f .many ∙ ap boolByte (le-ltb a n none))
+              ∙ ap boolByte (sym (lt-ltb s n b));
+        }
+
+    -- slot s is the second that does
+    pub one-twice : s < n → a < n → p s ≡ true → OneBefore p n s a → 2 ≤ countTo n p
+    one-twice b found e f =
+        omega (
+          arith,
+          f .many ∙ ap boolByte (lt-ltb a n found),
+          count-more s (countTo s p) 1 p refl (sym (ap (λ (t : Bool). pick {A = ℕ} t 1 0) e)),
+          count-grows (s + 1) n p (omega arith),
+        )
 
   -- all slots seen
   pub first-end : (a : ℕ) → FirstBefore p n n a → a ≡ firstFrom p 0 n
@@ -74,10 +116,10 @@ module _ (p : ℕ → Bool) (n : ℕ) where
         before = λ j h b. f .none-before j b (omega arith);
       }))
 
-  -- where no two pass, the last is the first
-  pub last-end :
-      (a : ℕ) → ((i j : ℕ) → i < n → j < n → p i ≡ true → p j ≡ true → i ≡ j) → LastBefore p n n a → a ≡ firstFrom p 0 n
-  last-end a one (inl h) =
+  -- where no two pass, one is the first
+  pub some-end :
+      (a : ℕ) → ((i j : ℕ) → i < n → j < n → p i ≡ true → p j ≡ true → i ≡ j) → SomeBefore p n n a → a ≡ firstFrom p 0 n
+  some-end a one (inl h) =
       sym
       (first-is p 0 n a
       (record {
@@ -86,7 +128,7 @@ module _ (p : ℕ → Bool) (n : ℕ) where
         passes = λ l. absurd (omega (arith, h .0));
         before = λ j l b. h .1 j (omega (arith, h .0));
       }))
-  last-end a one (inr h) =
+  some-end a one (inr h) =
       sym
       (first-is p 0 n a
       (record {

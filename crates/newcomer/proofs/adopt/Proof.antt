@@ -6,9 +6,9 @@ use native.Mathlib.Omega.{arith}
 use borrow.Author.Needs.{needs}
 use Rattle.refusals.specs.Limits.{mostChildren}
 use Rattle.table.specs.Record.{Record, recordOf}
-use Rattle.table.specs.Put.{withSlot, withCount}
+use Rattle.writing.specs.Put.{withSlot, withCount}
 use Rattle.table.specs.Stands.{stands-same}
-use Rattle.table.specs.Laws.{Became, put-slot, put-count, became-by}
+use Rattle.writing.specs.Laws.{Became, put-slot, put-count, became-by}
 use Rattle.newcomer.proofs.Writes.{wrote-then, adopting-is}
 use Rattle.newcomer.proofs.adopt.Statement.{statement}
 use Rattle.newcomer.proofs.adopt.Tie as tie

@@ -7,9 +7,9 @@ use borrow.Author.Needs.{needs}
 use lib.ListN.{length}
 use Rattle.table.specs.Record.{Record, recordOf, noSlot}
 use Rattle.table.specs.Same.{slots-length}
-use Rattle.table.specs.Put.{withSlot}
+use Rattle.writing.specs.Put.{withSlot}
 use Rattle.table.specs.Stands.{stands-same}
-use Rattle.table.specs.Laws.{Became, put-slot, became-by, became-none}
+use Rattle.writing.specs.Laws.{Became, put-slot, became-by, became-none}
 use Rattle.newcomer.proofs.Writes.{wrote-then, withSlots, cleared, cleared-none, cleared-more, cleared-all}
 use Rattle.newcomer.proofs.clear_slots.Statement.{statement}
 use Rattle.newcomer.proofs.clear_slots.Tie as tie

@@ -3,9 +3,9 @@ use mathlib.Core.Path.{refl}
 use native.Mathlib.Omega.{arith}
 use borrow.Author.Needs.{needs}
 use Rattle.table.specs.Record.{Record, recordOf}
-use Rattle.table.specs.Put.{withCard, withKind, withReadings}
+use Rattle.writing.specs.Put.{withCard, withKind, withReadings}
 use Rattle.table.specs.Stands.{stands-same}
-use Rattle.table.specs.Laws.{Became, put-card, put-kind, put-signature, became-by}
+use Rattle.writing.specs.Laws.{Became, put-card, put-kind, put-signature, became-by}
 use Rattle.newcomer.proofs.Writes.{wrote-then}
 use Rattle.newcomer.proofs.name.Statement.{statement}
 use Rattle.newcomer.proofs.name.Tie as tie

@@ -5,7 +5,7 @@ use mathlib.Core.Path.{refl}
 use native.Mathlib.Omega.{arith}
 use borrow.Author.Needs.{needs}
 use Rattle.table.specs.Record.{Record, recordOf}
-use Rattle.table.specs.Laws.{put-radius, became-by, became-none}
+use Rattle.writing.specs.Laws.{put-radius, became-by, became-none}
 use Rattle.newcomer.proofs.Writes.{raised-more, raised-not}
 use Rattle.newcomer.proofs.raise.Statement.{statement}
 use Rattle.newcomer.proofs.raise.Tie as tie

@@ -4,9 +4,9 @@ use mathlib.Core.Path.{refl}
 use native.Mathlib.Omega.{arith}
 use borrow.Author.Needs.{needs}
 use Rattle.table.specs.Record.{Record, recordOf}
-use Rattle.table.specs.Put.{withTimestamp, withRadius, withParent, withCount}
+use Rattle.writing.specs.Put.{withTimestamp, withRadius, withParent, withCount}
 use Rattle.table.specs.Stands.{stands-same}
-use Rattle.table.specs.Laws.{Became, put-timestamp, put-radius, put-parent, put-count, became-by, then-with}
+use Rattle.writing.specs.Laws.{Became, put-timestamp, put-radius, put-parent, put-count, became-by, then-with}
 use Rattle.newcomer.specs.Newcomer.{fresh, slotless}
 use Rattle.newcomer.proofs.Writes.{wrote-then}
 use Rattle.newcomer.proofs.seat.Statement.{statement}

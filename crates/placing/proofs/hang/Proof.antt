@@ -3,7 +3,7 @@
 use native.Mathlib.Omega.{arith}
 use borrow.Author.Needs.{needs}
 use Rattle.number.specs.Frame.{Bytes}
-use Rattle.table.specs.RoundTrip.{record-fits}
+use Rattle.table.specs.Fitting.{record-fits}
 use Rattle.placing.proofs.Hung.{Walked, walk-over, slot-few, slot-still, host-few, host-stands, host-room, hung}
 use Rattle.placing.proofs.hang.Statement.{statement}
 use Rattle.placing.proofs.hang.Tie as tie

@@ -14,12 +14,12 @@ use Rattle.refusals.specs.Limits.{mostRecords}
 use Rattle.table.specs.Table.{at}
 use Rattle.judge.specs.WellFormed.{WellFormed}
 use Rattle.survey.specs.Survey.{usedIn, largestTimestamp}
-use Rattle.survey.specs.Laws.{largest-late}
+use Rattle.survey.specs.Laws.{largest-late, largest-is}
 use Rattle.places.specs.Cases.{either}
 use Rattle.tree.specs.View.Count.{usedCount-more}
 use Rattle.view.specs.View.{viewOf}
 use Rattle.view.specs.Shaped.{Shaped}
-use Rattle.view.specs.Survey.{usedIn-usedCount, largest-is}
+use Rattle.view.specs.Survey.{usedIn-usedCount}
 use Rattle.newcomer.specs.Newcomer.{Newcomer}
 use Rattle.newcomer.specs.Kept.{Kept}
 

@@ -9,8 +9,9 @@ use borrow.Author.Needs.{needs}
 use Rattle.refusals.specs.Limits.{mostChildren}
 use Rattle.table.specs.Record.{recordOf}
 use Rattle.table.specs.Stands.{Stands, stands-same}
-use Rattle.table.specs.Laws.{became-by}
-use Rattle.removal.specs.Loop.Closing.{withSlots, closing, kept-none}
+use Rattle.writing.specs.Put.{withSlots}
+use Rattle.writing.specs.Laws.{became-by}
+use Rattle.removal.specs.Loop.Closing.{closing, kept-none}
 use Rattle.removal.specs.Loop.Closed.{ClosedTo, keptOf, closed-none, kept-few, closed-passed, closed-moved}
 use Rattle.removal.proofs.close_up.Statement.{statement}
 use Rattle.removal.proofs.close_up.Tie as tie

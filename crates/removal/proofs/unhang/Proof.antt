@@ -7,7 +7,7 @@ use borrow.Author.Needs.{needs}
 use Rattle.table.specs.Record.{free, noSlot}
 use Rattle.table.specs.Table.{recordsOf}
 use Rattle.table.specs.Stands.{Stands, stands-same}
-use Rattle.table.specs.Laws.{Became, put-free, became-by}
+use Rattle.writing.specs.Laws.{Became, put-free, became-by}
 use Rattle.removal.specs.Removal.{unhung}
 use Rattle.removal.specs.Lent.{held-stands, rooted, parent-stands, parent-hosts, disowned, unhung-freed}
 use Rattle.removal.proofs.unhang.Statement.{statement}

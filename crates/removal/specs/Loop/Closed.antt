@@ -10,11 +10,10 @@ use Rattle.refusals.specs.Limits.{mostChildren}
 use Rattle.table.specs.Record.{Record, recordOf, slot, noSlot}
 use Rattle.table.specs.Same.{slots-length}
 use Rattle.table.specs.Stands.{Stands, stands-same}
-use Rattle.table.specs.Put.{withSlot, withCount, putSlot, putCount}
-use Rattle.table.specs.Laws.{Became, put-slot, put-count, became-by, became-none, then-with}
+use Rattle.writing.specs.Put.{withSlots, withSlot, withCount, putSlot, putCount}
+use Rattle.writing.specs.Laws.{Became, put-slot, put-count, became-by, became-none, then-with}
 use Rattle.removal.specs.Removal.{disowning}
 use Rattle.removal.specs.Loop.Closing.{
-  withSlots,
   kept,
   closing,
   kept-at-most,

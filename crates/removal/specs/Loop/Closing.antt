@@ -11,13 +11,9 @@ use lib.ListN.{length, getD, set, take, drop, replicate, length-append, length-d
 use lib.Seq.{set-at, take-suc, drop-cons, getD-append-add, getD-drop, ext-getD}
 use borrow.Author.Tests.{eq-eqb, ne-eqb}
 use Rattle.table.specs.Record.{Record, slot, noSlot, children}
-use Rattle.table.specs.Put.{parts, withSlot, withCount}
+use Rattle.writing.specs.Put.{withSlots, withSlot, withCount}
 use Rattle.tree.specs.Remove.{except}
 use Rattle.removal.specs.Removal.{disowning}
-
--- the record with other child slots
-abbrev pub withSlots : Record → List ℕ → Record
-withSlots r ss = parts (r .card) (r .timestamp) (r .radius) (r .parent) (r .count) (r .kind) ss (r .readings)
 
 -- how many of the first k stay
 abbrev pub kept : ℕ → List ℕ → ℕ → ℕ

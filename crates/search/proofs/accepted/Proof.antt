@@ -13,8 +13,8 @@ use Rattle.table.specs.Stands.{Stands}
 use Rattle.refusals.specs.Refusal.{done}
 use Rattle.survey.specs.Survey.{usedIn}
 use Rattle.view.specs.Readable.{readable-walkable, readable-root}
-use Rattle.walk.specs.Step.{query}
-use Rattle.walk.specs.Loop.State.{State, state, stateOf, Fits, walked}
+use Rattle.steps.specs.Step.{query}
+use Rattle.walk.specs.State.{State, state, stateOf, Fits, walked}
 use Rattle.search.specs.Search.{noBound, cards, distances, listing}
 use Rattle.search.specs.Listing.{listing-none, walk-leaves, walk-fits}
 use Rattle.search.proofs.accepted.Statement.{statement}

@@ -12,7 +12,7 @@ use Rattle.table.specs.Table.{recordsIn}
 use Rattle.refusals.specs.Refusal.{firstOf, done}
 use Rattle.survey.specs.Answers.{Answers}
 use Rattle.admission.specs.Admission.{Admits, admissionTests}
-use Rattle.admission.specs.Query.{knownQuery, otherKind}
+use Rattle.admission.specs.Query.{knownQuery, otherKind, other-found}
 use Rattle.search.specs.Tests.{
   refusal-lent,
   refusal-argument,
@@ -57,7 +57,7 @@ other :
     (c : tie.After-other-kind) (l : List ℕ) →
     let b = start (told (found c .before)) in
     Admits l (b .args .lent) → otherKind (recordsIn l) (recordOf l) (b .args .kind) ≡ c .other-kind .result
-other c l a = sym (c .other-kind .ensures (recordsIn l) (recordOf l) (answers (told (found c .before)) l a))
+other c l a = sym (c .other-kind .ensures ∙ other-found _ (answers (told (found c .before)) l a))
 
 -- ---- needs
 

@@ -8,8 +8,8 @@ use borrow.Author.Needs.{needs}
 use borrow.Author.Tests.{not-true}
 use lib.ListN.{length, getD}
 use Rattle.distance.specs.Laws.{farthest}
-use Rattle.walk.specs.Loop.Children.{smallestTo}
-use Rattle.walk.proofs.Children as Children
+use Rattle.steps.specs.Loop.Children.{smallestTo}
+use Rattle.steps.specs.Loop.Laws as Children
 use Rattle.walk.proofs.Walked as Walked
 use Rattle.walk.proofs.walk.Reads as walk
 use Rattle.walk.proofs.+walk.Lts-walk as lts

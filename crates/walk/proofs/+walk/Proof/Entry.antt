@@ -8,9 +8,9 @@ use borrow.Author.Tests.{not-false}
 use lib.ListN.{length}
 use lib.Seq.{sets, length-sets}
 use Rattle.table.specs.Record.{recordOf}
-use Rattle.walk.specs.Step.{awayIn, isEntered, cardWithin}
-use Rattle.walk.specs.Loop.State.{State, state, Fits, after, noted}
-use Rattle.walk.proofs.Children as Children
+use Rattle.steps.specs.Step.{awayIn, isEntered, cardWithin}
+use Rattle.walk.specs.State.{State, state, Fits, after, noted}
+use Rattle.steps.specs.Loop.Laws as Children
 use Rattle.walk.proofs.Walked as Walked
 use Rattle.walk.proofs.+walk.Lts-walk as lts
 use Rattle.walk.proofs.+walk.Proof.Places.{At, tested, counted, written}

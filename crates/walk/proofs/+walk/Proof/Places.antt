@@ -8,20 +8,20 @@ use borrow.Fn.Kinds.{In, Out}
 use borrow.Fn.PlainCycle.{Measures, is, falls, and}
 use Rattle.distance.specs.Laws.{farthest}
 use Rattle.table.specs.Record.{slot}
-use Rattle.walk.specs.Step.{Query, query}
-use Rattle.walk.specs.Loop.Children.{smallestTo, restFrom}
-use Rattle.walk.specs.Loop.State.{State, stateOf, after, walked}
+use Rattle.steps.specs.Step.{Query, query}
+use Rattle.steps.specs.Loop.Children.{smallestTo, restFrom}
+use Rattle.walk.specs.State.{State, stateOf, after, walked}
 use Rattle.walk.proofs.walk.Reads as walk
 use Rattle.walk.proofs.walk.Kinds as walk-kinds
 use Rattle.walk.proofs.+walk.Lts-walk as lts
-use Rattle.walk.proofs.bound_of.Reads as bound-of-reads
+use Rattle.steps.proofs.bound_of.Reads as bound-of-reads
 use Rattle.table.proofs.child_of.Reads as child-of-reads
 use Rattle.table.proofs.children_of.Reads as children-of-reads
-use Rattle.walk.proofs.covers.Reads as covers-reads
-use Rattle.walk.proofs.distances.Reads as distances-reads
-use Rattle.walk.proofs.enters.Reads as enters-reads
-use Rattle.walk.proofs.note.Reads as note-reads
-use Rattle.walk.proofs.smaller.Reads as smaller-reads
+use Rattle.steps.proofs.covers.Reads as covers-reads
+use Rattle.steps.proofs.distances.Reads as distances-reads
+use Rattle.steps.proofs.enters.Reads as enters-reads
+use Rattle.steps.proofs.note.Reads as note-reads
+use Rattle.steps.proofs.smaller.Reads as smaller-reads
 
 -- ---- the depth left, and the loop
 

@@ -7,10 +7,10 @@ use native.Mathlib.Omega.{arith}
 use lib.ListN.{length, getD}
 use Rattle.places.specs.Cases.{either}
 use Rattle.table.specs.Stands.{Stands}
-use Rattle.walk.specs.Step.{awayIn, isCovered}
-use Rattle.walk.specs.Loop.Children.{nearestTo, childBound, enteredFrom}
-use Rattle.walk.specs.Loop.State.{stateOf, Fits, after, walked}
-use Rattle.walk.proofs.Children as Children
+use Rattle.steps.specs.Step.{awayIn, isCovered}
+use Rattle.steps.specs.Loop.Children.{nearestTo, childBound, enteredFrom}
+use Rattle.walk.specs.State.{stateOf, Fits, after, walked}
+use Rattle.steps.specs.Loop.Laws as Children
 use Rattle.walk.proofs.Walked as Walked
 use Rattle.walk.proofs.+walk.Lts-walk as lts
 use Rattle.walk.proofs.+walk.Proof.Places.{At, all-compared, child-slot}

@@ -1,0 +1,2 @@
+-- Slots oldest first, by keys.
+pub mod Age

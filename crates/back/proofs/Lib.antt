@@ -1,1 +1,0 @@
--- What the proofs of putting back share.

@@ -1,0 +1,2 @@
+-- What the proofs of gathering share.
+mod Gathering

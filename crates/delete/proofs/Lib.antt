@@ -1,2 +1,0 @@
--- What the proofs of delete share.
-mod Gathering
