@@ -52,7 +52,18 @@ use Rattle.delete.specs.Waiting.{leavingKeys, leaving-length, keys-waiti
 use Rattle.delete.specs.Call.{outcomeAt, present-held}
 use Rattle.below.specs.Loop.Gather.{slotsUnder}
 use Rattle.below.specs.Loop.Clock.{noMarks, marked, unmarked}
-use Rattle.delete.specs.Stays.{keys-few, keys-length, leaving-used-most, leaving-few, staying-largest, staying-used, staying-root, alone-freed, alone-waits, alone-turn}
+use Rattle.delete.specs.Stays.{
+  keys-few,
+  keys-length,
+  leaving-used-most,
+  leaving-few,
+  staying-largest,
+  staying-used,
+  staying-root,
+  alone-freed,
+  alone-waits,
+  alone-turn,
+}
 
 -- slot v of the bytes l holds a card; found: what was found in them
 pub record Deletable (l : List ℕ) (v : ℕ) (found : Findings) : Type 0 where

@@ -2,8 +2,10 @@
 //! [repetitions] [--self]`. With `--self` the model's judge is timed, which tells only that the bench works.
 
 use model::assemble::{self, Clock, Shape};
+use model::calls::Model;
 use model::distance::{Signature, READINGS, SIGNATURE};
 use model::history::full_table;
+use model::index::Index;
 use model::judge::{judge, Verdict};
 use model::random::Random;
 use model::record::{parse_table, table_bytes, MOST_RECORDS, RECORD};
@@ -64,6 +66,17 @@ fn with_keys(table: &[u8], keys: &[u32]) -> Vec<u8> {
     table_bytes(&records)
 }
 
+/// The card in the middle slot deleted and stored again. Its timestamp is now the largest, so timestamps no longer rise
+/// with the slots, as they do in a table that was only inserted into.
+fn with_a_card_anew(table: &[u8]) -> Vec<u8> {
+    let mut anew = table.to_vec();
+    let records = parse_table(table);
+    let middle = &records[records.len() / 2];
+    Model.delete(&mut anew, middle.card, 8);
+    Model.insert(&mut anew, middle.card, middle.kind, &middle.signature, 8);
+    anew
+}
+
 /// The last record in slot order gets the card of the first.
 fn with_equal_cards(table: &[u8]) -> Vec<u8> {
     let mut records = parse_table(table);
@@ -78,7 +91,10 @@ fn with_equal_cards(table: &[u8]) -> Vec<u8> {
 fn tables(random: &mut Random) -> Vec<(String, Vec<u8>, u32)> {
     let mut source = Source::new(random, READINGS, Flavour::Clustered);
     let full = full_table(random, &mut source, READINGS, MOST_RECORDS);
-    let mut list = vec![("1,024 records, ordinary".to_string(), full.clone(), DONE)];
+    let mut list = vec![
+        ("1,024 records, ordinary".to_string(), full.clone(), DONE),
+        ("1,024 records, a card stored anew".to_string(), with_a_card_anew(&full), DONE),
+    ];
     for (shape, name) in [(Shape::Chain, "a chain"), (Shape::Full, "eight children each")] {
         let table = assemble::table(random, MOST_RECORDS, MOST_RECORDS, shape, Clock::Sparse, READINGS);
         list.push((format!("1,024 records, {name}"), table, DONE));
@@ -161,6 +177,9 @@ fn main() -> ExitCode {
     // After other work: no table is the one that was judged or scanned just before.
     let in_turn: Vec<&[u8]> = ordinary.iter().map(Vec::as_slice).collect();
     right &= bench.row("1,024 records, eight ordinary tables in turn", &in_turn, DONE, &in_turn);
+    let anew: Vec<Vec<u8>> = ordinary.iter().map(|table| with_a_card_anew(table)).collect();
+    let in_turn: Vec<&[u8]> = anew.iter().map(Vec::as_slice).collect();
+    right &= bench.row("1,024 records, eight tables in turn, a card of each stored anew", &in_turn, DONE, &in_turn);
     if right {
         ExitCode::SUCCESS
     } else {
