@@ -1,9 +1,9 @@
 #!/usr/bin/env bash
 # Counts what the house does not want, and fails where a count is above what tools/limits.txt allows: the record's
-# length written out of its place, long paths in proofs, wide lines, files without a head. It also sees that every
-# must-fail edit which docs/PROMISES.md names is there, that no crate with a public function is without one, and that
-# crates.txt lists for a crate just what its files name. Long bodies and long files are only told. It takes seconds and
-# proves nothing.
+# length written out of its place, a shut name opened, long paths in proofs, wide lines, files without a head. It also
+# sees that every must-fail edit which docs/PROMISES.md names is there, that no crate with a public function is without
+# one, and that crates.txt lists for a crate just what its files name. Long bodies and long files are only told. It
+# takes seconds and proves nothing.
 set -u
 cd "$(dirname "$0")/.."
 export LC_ALL=C.UTF-8 # a character is a character, not a byte
@@ -14,6 +14,8 @@ passed=0 failed=0
 layout='crates/table/specs/Record\.antt'
 # Crates in which 64 is the number of bits of a word.
 words='crates/(number|distance|order|places)/'
+# Names of table's that are shut: other crates use their laws, and not their text.
+shut='Stands|StandTo|AreRecords|WholeRecords'
 # Crates that may have a public function and no edit, each with its reason: 'NAME: REASON', one to a line.
 without_edit=''
 # From how many lines on a body, a definition or a file is told.
@@ -55,13 +57,11 @@ record_length() {
         xargs grep -nHE '[*/%+] 64\b|\b64 [*+]' | grep -vE '^[^:]+:[0-9]+:\s*(--|//)'
 }
 
-long_paths() {
-    local file n
-    sources antt | while IFS= read -r file; do
-        n=$(grep -Pzo '(\.before\s*){5,}' "$file" | tr -cd '\0' | wc -c)
-        while [ "$n" -gt 0 ]; do echo "$file"; n=$((n - 1)); done
-    done
+opened() {
+    sources antt | grep '^crates/' | grep -v '^crates/table/' | xargs grep -nHE "\bunfold(ing)?\b.*\b($shut)\b"
 }
+
+long_paths() { sources antt | xargs perl -0777 -ne 'print "$ARGV\n" while /(\.before\s*){5,}/g'; }
 
 wide_lines() { sources rt antt rs sh c h | xargs grep -nHE '^.{121,}' | cut -c1-160; }
 
@@ -168,6 +168,7 @@ names_listed() {
 }
 
 count record-length "lines with a product or a sum of the record's length outside its layout" record_length
+count opened "places outside table that unfold one of its shut names" opened
 count long-paths "paths of more than four .before in a proof" long_paths
 count wide-lines "lines of more than 120 characters" wide_lines
 count no-head "files without a head comment" no_head

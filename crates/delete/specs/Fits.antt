@@ -36,7 +36,7 @@ removed-fits {rows} {v} held fits a h =
     slots-fit b u i =
         below-or i (S a .count)
         (λ k. omega (arith, removed-well-formed held .owned a i b u k .child-in, held .small))
-        (λ k. below-or i 8
+        (λ k. below-or i mostChildren
         (λ j. omega (arith, removed-well-formed held .filled a b u .past-count i k j))
         (λ j.
         let none : slot (S a) i ≡ 0 =

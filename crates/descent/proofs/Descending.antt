@@ -49,7 +49,7 @@ pub record Walking (l₀ : List ℕ) (kind : ℕ) (x : List ℕ) (arity root dep
   pub here : Stands l a
   pub some : 1 ≤ left
   pub less : left ≤ depth
-  pub small : count + 8 * left ≤ 1 + 8 * depth
+  pub small : count + mostChildren * left ≤ 1 + mostChildren * depth
   pub away-is : away ≡ apart kind (recordOf l a .readings) x
   pub near : away ≤ farthest
   pub rest :

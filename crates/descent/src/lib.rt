@@ -1,7 +1,7 @@
 // The walk of a newcomer (001, Algorithm 1): from the root to the record that it is to hang on.
 ghost use mathlib.Core.Path.{_≡_};
 ghost use Prim.Native.Nat.{_+_, _*_, _≤_};
-ghost use Rattle.refusals.specs.Limits.{mostRecords};
+ghost use Rattle.refusals.specs.Limits.{mostRecords, mostChildren};
 ghost use Rattle.table.specs.Stands.{Stands, Walkable};
 ghost use Rattle.distance.specs.Signature.{Fit};
 ghost use Rattle.distance.specs.Kind.{apart};
@@ -32,7 +32,7 @@ pub fn descend(
     requires { ⌜ Walkable (now t) × Stands (now t) root × Fit (x .readings) × (1 ≤ depth) × (depth ≤ mostRecords) ⌝ }
     ensures { λ r. ⌜ (descent (recordsOf (now (t .exit))) (r .slot) (r .count)
         ≡ descended (apart kind) (x .readings) arity (recordsOf (now (t .entry))) depth root 1)
-        × (r .count ≤ 1 + 8 * depth) ⌝ }
+        × (r .count ≤ 1 + mostChildren * depth) ⌝ }
 {
     let mut a = root;
     let mut away = table::away_from(t, root, kind, x);

@@ -5,6 +5,7 @@ use mathlib.Core.Path.{_≡_, sym, ap, _∙_}
 use mathlib.Core.List.{List}
 use lib.ListN.{getD, length, replicate, length-replicate, getD-replicate}
 use lib.Seq.{ext-getD}
+use Rattle.refusals.specs.Limits.{mostChildren}
 use Rattle.places.specs.Decides.{Decides, true-decided, le-decided, eq-decided, both, if-so, at-each, reworded}
 use Rattle.distance.specs.Kind.{knownKind}
 use Rattle.table.specs.Record.{Record, Used, used, free, slot, noSlot}
@@ -58,7 +59,7 @@ free-decided r =
     (both (eq-decided (r .card) 0) (eq-decided (r .timestamp) 0))
     (both (eq-decided (r .radius) 0) (eq-decided (r .parent) 0)))
     (both (eq-decided (r .count) 0) (eq-decided (r .kind) 0)))
-    (both (zeros-decided 8 (r .slots)) (zeros-decided 16 (r .readings))))
+    (both (zeros-decided mostChildren (r .slots)) (zeros-decided 16 (r .readings))))
 
 pub filled-decided : (r : Record) → Decides (isFilled r) (Filled r)
 unfolding isFilled pastCount
@@ -77,7 +78,7 @@ filled-decided r =
       (f .kind-known, λ i b p. f .past-count i p b),
     ))
     (both
-    (both (both (le-decided 1 (r .card)) (le-decided 1 (r .timestamp))) (le-decided (r .count) 8))
+    (both (both (le-decided 1 (r .card)) (le-decided 1 (r .timestamp))) (le-decided (r .count) mostChildren))
     (both
     (true-decided (knownKind (r .kind)))
-    (at-each 8 (λ i. if-so (le-decided (r .count) i) (eq-decided (slot r i) noSlot)))))
+    (at-each mostChildren (λ i. if-so (le-decided (r .count) i) (eq-decided (slot r i) noSlot)))))

@@ -6,6 +6,7 @@ use mathlib.Core.Bool.{Bool, true, _&&_, not}
 use mathlib.Core.List.{List}
 use lib.Dec.{leb, ltb, eqb}
 use lib.ListN.{getD, length}
+use Rattle.refusals.specs.Limits.{mostChildren}
 use Rattle.places.specs.Choice.{pick, implies}
 use Rattle.places.specs.Test.{allTo, countTo}
 use Rattle.distance.specs.Kind.{knownKind}
@@ -18,9 +19,9 @@ use Rattle.table.specs.Record.{Record, Used, used, free, slot, noSlot}
 pub record Filled (r : Record) : Type 0 where
   pub card-from-1 : 1 ≤ r .card
   pub timestamp-from-1 : 1 ≤ r .timestamp
-  pub count-to-8 : r .count ≤ 8
+  pub count-to-8 : r .count ≤ mostChildren
   pub kind-known : knownKind (r .kind) ≡ true
-  pub past-count : (i : ℕ) → r .count ≤ i → i < 8 → slot r i ≡ noSlot
+  pub past-count : (i : ℕ) → r .count ≤ i → i < mostChildren → slot r i ≡ noSlot
 
 -- how often s stands in the child slots of r
 abbrev pub standing : ℕ → Record → ℕ
@@ -76,7 +77,7 @@ unfoldable pub isFree : Record → Bool
 isFree r =
     (((eqb (r .card) 0 && eqb (r .timestamp) 0) && (eqb (r .radius) 0 && eqb (r .parent) 0))
     && (eqb (r .count) 0 && eqb (r .kind) 0))
-    && (zeros 8 (r .slots) && zeros 16 (r .readings))
+    && (zeros mostChildren (r .slots) && zeros 16 (r .readings))
 
 -- child slot i is 65,535 if it is past the count
 abbrev pub isPast : Record → ℕ → Bool
@@ -84,12 +85,12 @@ isPast r i = implies (leb (r .count) i) (eqb (slot r i) noSlot)
 
 -- so are all eight
 unfoldable pub pastCount : Record → Bool
-pastCount r = allTo 8 (isPast r)
+pastCount r = allTo mostChildren (isPast r)
 
 -- a record that has every field as in the table above
 unfoldable pub isFilled : Record → Bool
 isFilled r =
-    ((leb 1 (r .card) && leb 1 (r .timestamp)) && leb (r .count) 8)
+    ((leb 1 (r .card) && leb 1 (r .timestamp)) && leb (r .count) mostChildren)
     && (knownKind (r .kind) && pastCount r)
 
 -- a used record without parent

@@ -7,6 +7,7 @@ use native.Mathlib.Omega.{arith}
 use lib.Dec.{leb, eqb}
 use lib.ListN.{getD}
 use borrow.Author.Tests.{eq-eqb, eqb-true, le-leb, leb-true, leb-false}
+use Rattle.refusals.specs.Limits.{mostChildren}
 use Rattle.places.specs.Choice.{pick, and-left, and-right, and-both, same-test}
 use Rattle.places.specs.Test.{all-at, at-all}
 use Rattle.distance.specs.Signature.{wordOf}
@@ -58,12 +59,12 @@ to-eight P a b c d e f g h i (suc (suc (suc (suc (suc (suc (suc zero))))))) l = 
 to-eight P a b c d e f g h i (suc (suc (suc (suc (suc (suc (suc (suc zero)))))))) l = i
 to-eight P a b c d e f g h i (suc (suc (suc (suc (suc (suc (suc (suc (suc n))))))))) l = absurd (omega arith)
 
-first-floor : (c : ℕ) → c ≤ 8 → getD firstFloors c 0 ≡ floorOf c
+first-floor : (c : ℕ) → c ≤ mostChildren → getD firstFloors c 0 ≡ floorOf c
 unfolding floorOf
 first-floor =
     to-eight (λ c. getD firstFloors c 0 ≡ 2 ^ 64 - 65536 ^ c) refl refl refl refl refl refl refl refl refl
 
-no-floor : (c : ℕ) → c ≤ 8 → 4 ≤ c → floorOf c ≡ 0
+no-floor : (c : ℕ) → c ≤ mostChildren → 4 ≤ c → floorOf c ≡ 0
 unfolding floorOf
 no-floor =
     to-eight
@@ -78,7 +79,7 @@ no-floor =
     (λ h. refl)
     (λ h. refl)
 
-last-floor : (c : ℕ) → c ≤ 8 → getD lastFloors c 0 ≡ floorOf (c - 4)
+last-floor : (c : ℕ) → c ≤ mostChildren → getD lastFloors c 0 ≡ floorOf (c - 4)
 unfolding floorOf
 last-floor =
     to-eight (λ c. getD lastFloors c 0 ≡ 2 ^ 64 - 65536 ^ (c - 4)) refl refl refl refl refl refl refl refl refl
@@ -127,7 +128,7 @@ module _ (p : ℕ → ℕ) (fit : (i : ℕ) → i < 4 → p i < 65536) where
   abbrev f3 : p 3 < 65536
   f3 = fit 3 (omega arith)
 
-  floor-full : (c : ℕ) → c ≤ 8 → floorOf c ≤ four p → (i : ℕ) → i < 4 → Full p c i
+  floor-full : (c : ℕ) → c ≤ mostChildren → floorOf c ≤ four p → (i : ℕ) → i < 4 → Full p c i
   floor-full zero b h =
       let t = top-0 (p 0) (p 1) (p 2) (p 3) f0 f1 f2 f3 (omega (arith, first-floor 0 (omega arith))) in
       each (Full p 0) (λ l. t .0) (λ l. t .1) (λ l. t .2) (λ l. t .3)
@@ -142,7 +143,7 @@ module _ (p : ℕ → ℕ) (fit : (i : ℕ) → i < 4 → p i < 65536) where
       each (Full p 3) (λ l. absurd (omega arith)) (λ l. absurd (omega arith)) (λ l. absurd (omega arith)) (λ l. t)
   floor-full (suc (suc (suc (suc c)))) b h = λ i below l. absurd (omega arith)
 
-  full-floor : (c : ℕ) → c ≤ 8 → ((i : ℕ) → i < 4 → Full p c i) → floorOf c ≤ four p
+  full-floor : (c : ℕ) → c ≤ mostChildren → ((i : ℕ) → i < 4 → Full p c i) → floorOf c ≤ four p
   full-floor zero b full =
       let e0 = full 0 (omega arith) (omega arith) in
       let e1 = full 1 (omega arith) (omega arith) in
@@ -166,25 +167,25 @@ module _ (p : ℕ → ℕ) (fit : (i : ℕ) → i < 4 → p i < 65536) where
 
 -- ---- the child slots
 
-module _ (r : Record) (fit : (i : ℕ) → i < 8 → slot r i < 65536) where
+module _ (r : Record) (fit : (i : ℕ) → i < mostChildren → slot r i < 65536) where
   abbrev Past : ℕ → Type 0
   Past i = r .count ≤ i → slot r i ≡ noSlot
 
   -- the test says of all eight what the statement does
-  past-all : ((i : ℕ) → i < 8 → Past i) → pastCount r ≡ true
+  past-all : ((i : ℕ) → i < mostChildren → Past i) → pastCount r ≡ true
   unfolding pastCount
-  past-all h = at-all 8 (isPast r) (λ i b. go i b (leb (r .count) i) refl)
+  past-all h = at-all mostChildren (isPast r) (λ i b. go i b (leb (r .count) i) refl)
     where
-      go : (i : ℕ) → i < 8 → (t : Bool) → leb (r .count) i ≡ t → pick t (eqb (slot r i) noSlot) true ≡ true
+      go : (i : ℕ) → i < mostChildren → (t : Bool) → leb (r .count) i ≡ t → pick t (eqb (slot r i) noSlot) true ≡ true
       go i b true e = eq-eqb (slot r i) noSlot (h i b (leb-true (r .count) i e))
       go i b false e = refl
 
-  all-past : pastCount r ≡ true → (i : ℕ) → i < 8 → Past i
+  all-past : pastCount r ≡ true → (i : ℕ) → i < mostChildren → Past i
   unfolding pastCount
   all-past h i b l =
       let on : leb (r .count) i ≡ true = le-leb (r .count) i l in
       eqb-true (slot r i) noSlot
-      (sym (ap (λ (t : Bool). pick t (eqb (slot r i) noSlot) true) on) ∙ all-at 8 (isPast r) h i b)
+      (sym (ap (λ (t : Bool). pick t (eqb (slot r i) noSlot) true) on) ∙ all-at mostChildren (isPast r) h i b)
 
   -- the last four slots
   abbrev last : ℕ → ℕ
@@ -208,7 +209,7 @@ module _ (r : Record) (fit : (i : ℕ) → i < 8 → slot r i < 65536) where
   halves :
       ((i : ℕ) → i < 4 → Past i)
       → ((i : ℕ) → i < 4 → Full last (r .count - 4) i)
-      → (i : ℕ) → i < 8 → Past i
+      → (i : ℕ) → i < mostChildren → Past i
   halves f l i b = go (leb 4 i) refl
     where
       go : (t : Bool) → leb 4 i ≡ t → Past i
@@ -220,7 +221,7 @@ module _ (r : Record) (fit : (i : ℕ) → i < 8 → slot r i < 65536) where
 
   -- what the code finds
   pub past-told :
-      r .count ≤ 8
+      r .count ≤ mostChildren
       → leb (getD firstFloors (r .count) 0) (wordOf (r .slots) 0)
       && leb (getD lastFloors (r .count) 0) (wordOf (r .slots) 1)
       ≡ pastCount r

@@ -46,11 +46,31 @@ use Rattle.history.specs.History.{Typed, AllTyped, Line, line, cleared, without
 use Rattle.history.specs.Demands.{Holds}
 use Rattle.history.specs.Kept.{all-hold, run-holds}
 use Rattle.history.specs.Holds.{cleared-holds, sized}
-use Rattle.listing.specs.Rows.{Step, insert, delete, search, check, call, calls}
-use Rattle.listing.specs.Rows.{insertRefusal, insertPlaced, deleteRefusal, deletePlaced, searchRefusal}
-use Rattle.listing.specs.Rows.{searchLine, reportOn, afterOn, reportsOn, runOn, cleared-rows, report-on}
-use Rattle.listing.specs.Rows.{reports-on, run-on, storedOn, storedAfter, stored-after, checkOn, reradius}
-use Rattle.listing.specs.Rows.{check-reradius}
+use Rattle.listing.specs.Rows.{
+  Step,
+  insert,
+  delete,
+  search,
+  check,
+  call,
+  calls,
+  insertRefusal,
+  insertPlaced,
+  deleteRefusal,
+  deletePlaced,
+  searchRefusal,
+  searchLine,
+  reportOn,
+  afterOn,
+  reportsOn,
+  runOn,
+  storedOn,
+  storedAfter,
+  checkOn,
+  reradius,
+  check-reradius,
+}
+use Rattle.listing.specs.OnRows.{cleared-rows, report-on, reports-on, run-on, stored-after}
 
 -- ---- "Commands for this listing: kind 1, arity 2, reading 0 as given, the other readings 0"
 

@@ -6,6 +6,7 @@ use mathlib.Core.List.{List}
 use native.Mathlib.Omega.{arith}
 use native.Mathlib.Numerals.{add-one}
 use lib.ListN.{length, set, replicate, length-set, length-replicate, getD-replicate}
+use Rattle.refusals.specs.Limits.{mostChildren}
 use Rattle.places.specs.Fill.{Filled, filled-more, filled-all}
 use Rattle.table.specs.Record.{Record, recordOf, noSlot}
 use Rattle.writing.specs.Put.{parts, withRadius, withSlot, withCount}
@@ -62,27 +63,31 @@ pub cleared-more : (i : ℕ) (ss : List ℕ) → set (cleared i ss) i noSlot ≡
 unfolding cleared
 cleared-more i ss = rw (add-one i)
 
-cleared-filled : (i : ℕ) (ss : List ℕ) → i ≤ 8 → length ss ≡ 8 → Filled (replicate 8 noSlot) (cleared i ss) i
+cleared-filled :
+    (i : ℕ) (ss : List ℕ)
+    → i ≤ mostChildren
+    → length ss ≡ mostChildren
+    → Filled (replicate mostChildren noSlot) (cleared i ss) i
 unfolding cleared
 cleared-filled zero ss h e k b = absurd (omega arith)
 cleared-filled (suc i) ss h e k b =
     filled-more
-    (replicate 8 noSlot)
+    (replicate mostChildren noSlot)
     (cleared i ss)
     i
     noSlot
     (omega (arith, cleared-length i ss))
     (cleared-filled i ss (omega arith) e)
-    (sym (getD-replicate 8 i noSlot 0 (omega arith)))
+    (sym (getD-replicate mostChildren i noSlot 0 (omega arith)))
     k
     (omega arith)
 
-pub cleared-all : (ss : List ℕ) → length ss ≡ 8 → cleared 8 ss ≡ replicate 8 noSlot
+pub cleared-all : (ss : List ℕ) → length ss ≡ mostChildren → cleared mostChildren ss ≡ replicate mostChildren noSlot
 cleared-all ss e =
     filled-all
-    (replicate 8 noSlot)
-    (cleared 8 ss)
-    8
-    (cleared-length 8 ss ∙ e)
-    (length-replicate 8 noSlot)
-    (cleared-filled 8 ss (omega arith) e)
+    (replicate mostChildren noSlot)
+    (cleared mostChildren ss)
+    mostChildren
+    (cleared-length mostChildren ss ∙ e)
+    (length-replicate mostChildren noSlot)
+    (cleared-filled mostChildren ss (omega arith) e)

@@ -4,8 +4,9 @@ use Prim.Native.Nat.{ℕ, _+_, max}
 use mathlib.Core.Path.{_≡_, ap}
 use mathlib.Core.List.{List}
 use lib.ListN.{set, replicate}
+use Rattle.refusals.specs.Limits.{mostChildren}
 use Rattle.table.specs.Record.{Record, noSlot}
-use Rattle.writing.specs.Put.{parts}
+use Rattle.writing.specs.Put.{parts, withSlots}
 
 -- ---- what a card brings
 
@@ -72,7 +73,7 @@ fresh x t p =
       parent = p;
       count = 0;
       kind = x .kind;
-      slots = replicate 8 noSlot;
+      slots = replicate mostChildren noSlot;
       readings = x .readings;
     }
 
@@ -82,5 +83,4 @@ named card kind readings r = parts card (r .timestamp) (r .radius) (r .parent) (
 
 -- the record with 65,535 in every child slot
 abbrev pub slotless : Record → Record
-slotless r =
-    parts (r .card) (r .timestamp) (r .radius) (r .parent) (r .count) (r .kind) (replicate 8 noSlot) (r .readings)
+slotless r = withSlots r (replicate mostChildren noSlot)

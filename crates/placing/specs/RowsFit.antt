@@ -24,7 +24,7 @@ use Rattle.newcomer.specs.Newcomer.{Newcomer, fresh}
 use Rattle.placing.specs.Place.Settled.{Ready, Settled, settled-largest}
 use Rattle.placing.specs.Place.Child.{visited}
 use Rattle.placing.specs.Place.Keeps.{placed-root, placed-inserted, placed-settled}
-use Rattle.refusals.specs.Limits.{lastTimestamp}
+use Rattle.refusals.specs.Limits.{lastTimestamp, mostChildren}
 
 pub fitting-free : Fitting free
 fitting-free = rw (past-free [] 0 (omega arith)) at (record-fits [] 0 (λ i. omega arith))
@@ -110,12 +110,12 @@ module _ {n arity s : ℕ} {x : Newcomer} {rows : List Record} (ready : Ready n 
             i
             (S a .count)
             (λ b. omega (arith, wf .owned a i h u b .child-in, ready .small))
-            (λ b. below-or i 8 (λ k. omega (arith, filled .past-count i b k)) (λ k. past i k));
+            (λ b. below-or i mostChildren (λ k. omega (arith, filled .past-count i b k)) (λ k. past i k));
         sixteen = new .shaped .sixteen a;
         readings = readings-fit a h;
       }
     where
-      past : (i : ℕ) → 8 ≤ i → slot (S a) i < 65536
+      past : (i : ℕ) → mostChildren ≤ i → slot (S a) i < 65536
       past i k =
           let e : slot (S a) i ≡ 0 = List·getD-eq-default (S a .slots) 0 (omega (arith, new .shaped .eight a)) in
           omega (arith, e)

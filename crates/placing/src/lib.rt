@@ -2,6 +2,7 @@
 // below the deleted card.
 ghost use mathlib.Core.Path.{_≡_};
 ghost use Prim.Native.Nat.{_+_, _*_, _≤_};
+ghost use Rattle.refusals.specs.Limits.{mostChildren};
 ghost use Rattle.distance.specs.Kind.{apart};
 ghost use Rattle.table.specs.Table.{recordsOf};
 ghost use Rattle.placing.specs.Place.{placed};
@@ -28,7 +29,7 @@ pub fn hang(
 ) -> u32
     requires { ⌜ Hangable (now t) kind arity s root depth ⌝ }
     ensures { λ r. ⌜ (leaves (now (t .exit)) r ≡ hungIn (now (t .entry)) kind arity s root depth timestamp)
-        × (r ≤ 1 + 8 * depth) ⌝ }
+        × (r ≤ 1 + mostChildren * depth) ⌝ }
 {
     let x = table::signature_of(t, s);
     let host = descend(t, kind, x, arity as usize, root, depth);

@@ -20,7 +20,7 @@ use lib.ListN.{
 use lib.Seq.{getD-set-same, getD-set-other, take-at, getD-append-add}
 use borrow.Author.Tests.{eq-eqb, ne-eqb}
 use Rattle.table.specs.Record.{Record, Used, free, noSlot, children}
-use Rattle.refusals.specs.Limits.{mostRecords}
+use Rattle.refusals.specs.Limits.{mostRecords, mostChildren}
 use Rattle.table.specs.Table.{at}
 use Rattle.judge.specs.WellFormed.{WellFormed, Filled}
 use Rattle.survey.specs.Survey.{usedIn, rootOf}
@@ -63,11 +63,11 @@ pub record Stayed (v : ℕ) (r q : Record) : Type 0 where
   pub kind : q .kind ≡ r .kind
   pub readings : q .readings ≡ r .readings
   pub children : children q ≡ except v (children r)
-  pub eight : length (q .slots) ≡ 8
+  pub eight : length (q .slots) ≡ mostChildren
   pub filled : Filled r → Filled q
   pub unused : r .card ≡ 0 → q ≡ r
 
-pub stayed-self : (v : ℕ) (r : Record) → (v ∈ children r → ⊥) → length (r .slots) ≡ 8 → Stayed v r r
+pub stayed-self : (v : ℕ) (r : Record) → (v ∈ children r → ⊥) → length (r .slots) ≡ mostChildren → Stayed v r r
 stayed-self v r m eight =
     record {
       card = refl;
@@ -82,7 +82,8 @@ stayed-self v r m eight =
       unused = λ _. refl;
     }
 
-module _ (v : ℕ) (r : Record) (fits : r .count ≤ 8) (eight : length (r .slots) ≡ 8) (once : Distinct (children r))
+module _ (v : ℕ) (r : Record) (fits : r .count ≤ mostChildren) (eight : length (r .slots) ≡ mostChildren)
+    (once : Distinct (children r))
     (child : v ∈ children r) where
   rest-length : suc (length (except v (children r))) ≡ r .count
   rest-length = sym (except-length v (children r) once child) ∙ children-length r (omega arith)
@@ -177,7 +178,7 @@ module _ {rows : List Record} {v : ℕ} (held : Held rows v) where
 
   -- ---- the records that stay
 
-  pub count-small : (a : ℕ) → at rows a .count ≤ 8
+  pub count-small : (a : ℕ) → at rows a .count ≤ mostChildren
   count-small a =
       omega (
         arith,

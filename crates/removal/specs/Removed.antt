@@ -6,6 +6,7 @@ use mathlib.Core.List.{List, List·Memᴰ·not-nil}
 use native.Mathlib.Omega.{arith}
 use native.Mathlib.Decide.{ℕ-discrete}
 use lib.ListN.{length, List·getD-eq-default}
+use Rattle.refusals.specs.Limits.{mostChildren}
 use Rattle.table.specs.Record.{Record, Used, free, noSlot, children}
 use Rattle.table.specs.Table.{at}
 use Rattle.places.specs.Cases.{below-or}
@@ -81,7 +82,7 @@ module _ {rows : List Record} {v : ℕ} (held : Held rows v) where
   pub removed-shaped : Shaped (length rows) (at (removed rows v))
   removed-shaped =
       record {
-        eight = λ a. each a (λ (r : Record). length (r .slots) ≡ 8) refl (λ s. s .eight);
+        eight = λ a. each a (λ (r : Record). length (r .slots) ≡ mostChildren) refl (λ s. s .eight);
         sixteen = λ a.
             each a (λ (r : Record). length (r .readings) ≡ 16) refl
             (λ s. ap length (s .readings) ∙ held .shaped .sixteen a);

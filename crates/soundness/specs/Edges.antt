@@ -4,6 +4,7 @@ use Prim.Native.Nat.{ℕ, _-_}
 use mathlib.Core.Path.{_≡_, refl}
 use mathlib.Core.List.{List, [], _∷_, _++_, flatMap}
 use lib.ListN.{length, replicate}
+use Rattle.refusals.specs.Limits.{mostChildren}
 use Rattle.places.specs.Row.{rowTo}
 use Rattle.places.specs.Sum.{sumTo}
 use Rattle.places.specs.Test.{allTo, countTo}
@@ -30,7 +31,7 @@ stored card timestamp radius parent children reading =
       parent = parent;
       count = length children;
       kind = 1;
-      slots = children ++ replicate (8 - length children) noSlot;
+      slots = children ++ replicate (mostChildren - length children) noSlot;
       readings = reading ∷ replicate 15 0;
     }
 

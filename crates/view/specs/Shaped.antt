@@ -4,12 +4,13 @@ use Prim.Native.Nat.{ℕ, _≤_}
 use mathlib.Core.Path.{_≡_}
 use mathlib.Core.List.{List}
 use lib.ListN.{length}
+use Rattle.refusals.specs.Limits.{mostChildren}
 use Rattle.table.specs.Record.{Record, free, recordOf}
 use Rattle.table.specs.Stands.{AreRecords}
 use Rattle.table.specs.Same.{slots-length, readings-length-of, past-are}
 
 pub record Shaped (n : ℕ) (R : ℕ → Record) : Type 0 where
-  pub eight : (s : ℕ) → length (R s .slots) ≡ 8
+  pub eight : (s : ℕ) → length (R s .slots) ≡ mostChildren
   pub sixteen : (s : ℕ) → length (R s .readings) ≡ 16
   pub past : (s : ℕ) → n ≤ s → R s ≡ free
 

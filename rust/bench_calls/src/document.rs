@@ -50,6 +50,19 @@ of a turn, and the median of many turns. Before a turn of inserts all eight are 
     );
 }
 
+pub fn after_deletions() {
+    println!(
+        "
+## After deletions
+
+In a table that was only inserted into, timestamps rise with the slots, and the library sees from that alone that they
+are different. Here sixteen cards were deleted and stored again, so that their timestamps have to be told apart like the
+cards; otherwise these are the first rows' tables, again one call on one table again and again.
+
+{HEAD}"
+    );
+}
+
 pub fn worst_cases() {
     println!(
         "

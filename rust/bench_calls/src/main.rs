@@ -41,6 +41,11 @@ fn main() {
         let tables: Vec<Bench> = (0..IN_TURN).map(|seed| Bench::new(setting, 20 + seed)).collect();
         rows::measure_in_turn(&tables, &mut |row| println!("{row}"));
     }
+    document::after_deletions();
+    for kind in [1, 2] {
+        let setting = Setting { records: MOST_RECORDS, flavour: Flavour::Clustered, kind, arity };
+        rows::measure_in_turn(&[Bench::new(setting, 7).with_cards_anew()], &mut |row| println!("{row}"));
+    }
     document::worst_cases();
     for kind in [1, 2] {
         rows::measure_chain(&Bench::chain(kind), &mut |row| println!("{row}"));

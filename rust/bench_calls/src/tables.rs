@@ -61,6 +61,21 @@ impl Bench {
         bench
     }
 
+    /// The table after some cards were deleted and stored again: they have their old slots and the largest timestamps.
+    pub fn with_cards_anew(mut self) -> Bench {
+        let Setting { kind, arity, .. } = self.setting;
+        let records = parse_table(&self.full);
+        for card in self.leaves() {
+            let signature = records.iter().find(|record| record.card == card).unwrap().signature;
+            for table in [&mut self.full, &mut self.room] {
+                if twin::delete(table, card, arity).refusal == 0 {
+                    assert_eq!(twin::insert(table, card, kind, &signature, arity).refusal, 0);
+                }
+            }
+        }
+        self
+    }
+
     /// A chain of 1,024 records, each the only child of the one before, all reached by their covering radii.
     pub fn chain(kind: u8) -> Bench {
         let mut random = Random::new(11);

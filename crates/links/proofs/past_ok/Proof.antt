@@ -6,6 +6,7 @@ use mathlib.Core.Bool.{_&&_}
 use mathlib.Core.List.{List}
 use lib.Dec.{leb}
 use lib.ListN.{getD}
+use Rattle.refusals.specs.Limits.{mostChildren}
 use Rattle.number.specs.Frame.{Bytes}
 use Rattle.table.specs.Record.{recordOf, slot}
 use Rattle.table.specs.Fitting.{record-fits}
@@ -15,7 +16,7 @@ use borrow.Author.Needs.{needs}
 use Rattle.links.proofs.past_ok.Statement.{statement}
 use Rattle.links.proofs.past_ok.Tie as tie
 
-slots-fit : (l : List ℕ) (s : ℕ) → Bytes l → (i : ℕ) → i < 8 → slot (recordOf l s) i < 65536
+slots-fit : (l : List ℕ) (s : ℕ) → Bytes l → (i : ℕ) → i < mostChildren → slot (recordOf l s) i < 65536
 slots-fit l s h i b = record-fits l s h .slots i
 
 -- ---- stations

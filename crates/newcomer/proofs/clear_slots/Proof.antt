@@ -5,6 +5,7 @@ use mathlib.Core.Path.{_≡_, refl, sym, ap, _∙_}
 use native.Mathlib.Omega.{arith}
 use borrow.Author.Needs.{needs}
 use lib.ListN.{length}
+use Rattle.refusals.specs.Limits.{mostChildren}
 use Rattle.table.specs.Record.{Record, recordOf, noSlot}
 use Rattle.table.specs.Same.{slots-length}
 use Rattle.writing.specs.Put.{withSlot}
@@ -16,10 +17,12 @@ use Rattle.newcomer.proofs.clear_slots.Tie as tie
 
 abbrev Inv-loop : tie.InvT-loop
 Inv-loop t₀ s i₀ t i =
-    (i ≤ 8) × (length t ≡ length t₀) × Became t₀ s (withSlots (recordOf t₀ s) (cleared i (recordOf t₀ s .slots))) t
+    (i ≤ mostChildren)
+    × (length t ≡ length t₀)
+    × Became t₀ s (withSlots (recordOf t₀ s) (cleared i (recordOf t₀ s .slots))) t
 
 abbrev μ-loop : tie.MeasureT-loop
-μ-loop t₀ s i₀ t i = 8 - i
+μ-loop t₀ s i₀ t i = mostChildren - i
 
 -- ---- stations: the loop's head, and the turn's write
 
@@ -75,8 +78,8 @@ returns : tie.Need-returns Inv-loop μ-loop
 returns c =
     let head = c .before in
     let b = start head in
-    let all : head .loop .i ≡ 8 = omega arith in
-    let made : cleared (head .loop .i) (was b .slots) ≡ cleared 8 (was b .slots) =
+    let all : head .loop .i ≡ mostChildren = omega arith in
+    let made : cleared (head .loop .i) (was b .slots) ≡ cleared mostChildren (was b .slots) =
     ap (λ (i : ℕ). cleared i (was b .slots)) all in
     became-by
     (head .loop .inv .2)

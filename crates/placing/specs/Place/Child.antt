@@ -7,6 +7,7 @@ use native.Mathlib.Omega.{arith}
 use native.Mathlib.Decide.{ℕ-discrete}
 use lib.ListN.{length, length-set, List·getD-eq-default}
 use lib.Seq.{getD-set-other}
+use Rattle.refusals.specs.Limits.{mostChildren}
 use Rattle.distance.specs.Laws.{Distance}
 use Rattle.table.specs.Record.{Record, Used, free}
 use Rattle.table.specs.Table.{at}
@@ -57,7 +58,7 @@ still-filled r q h f =
       past-count = λ i p b. rw (h .slots) (f .past-count i (rw (h .count) at p) b);
     }
 
-adopting-filled : (s : ℕ) (r : Record) → r .count < 8 → Filled r → Filled (adopting s r)
+adopting-filled : (s : ℕ) (r : Record) → r .count < mostChildren → Filled r → Filled (adopting s r)
 unfolding adopting
 adopting-filled s r h f =
     record {
@@ -102,7 +103,7 @@ module _ (d : List ℕ → List ℕ → ℕ) (arity : ℕ) {n s : ℕ} {x : Newc
   within : (a : ℕ) → Used (at rows a) → a < length rows
   within a u = omega (arith, used-within (ready .shaped) a u, ready .length-is)
 
-  on-count : at rows on .count < 8
+  on-count : at rows on .count < mostChildren
   unfolding host
   on-count =
       let fits = count-fits (ready .shaped) (ready .well-formed .free-if-no-card) (ready .well-formed .filled) on in
@@ -204,9 +205,9 @@ module _ (d : List ℕ → List ℕ → ℕ) (arity : ℕ) {n s : ℕ} {x : Newc
       record {
         eight =
             λ a.
-            let as-was : length (H a .slots) ≡ 8 = ap length (still a .slots) ∙ ready .shaped .eight a in
+            let as-was : length (H a .slots) ≡ mostChildren = ap length (still a .slots) ∙ ready .shaped .eight a in
             each
-            (λ (r : Record). length (r .slots) ≡ 8)
+            (λ (r : Record). length (r .slots) ≡ mostChildren)
             a
             (λ _. refl)
             (λ _. length-set (H a .slots) (H a .count) s ∙ as-was)
@@ -246,7 +247,7 @@ module _ (d : List ℕ → List ℕ → ℕ) (arity : ℕ) {n s : ℕ} {x : Newc
             a
             (λ _. fresh-filled ready t on positive)
             (λ e.
-            let room : H a .count < 8 =
+            let room : H a .count < mostChildren =
             omega (arith, on-count, still a .count, ap (λ (i : ℕ). at rows i .count) e) in
             adopting-filled s (H a) room (was-filled a b (rw e on-used)))
             (λ ns _. was-filled a b (rw (kept a ns .card) at u));

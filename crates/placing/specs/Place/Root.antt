@@ -7,6 +7,7 @@ use native.Mathlib.Omega.{arith}
 use native.Mathlib.Decide.{ℕ-discrete}
 use lib.ListN.{length, length-set, getD-replicate}
 use lib.Seq.{getD-set-same, getD-set-other}
+use Rattle.refusals.specs.Limits.{mostChildren}
 use Rattle.table.specs.Record.{Record, Used, free, noSlot, children}
 use Rattle.table.specs.Table.{at}
 use Rattle.judge.specs.WellFormed.{Filled}
@@ -36,7 +37,7 @@ fresh-filled ready t p h =
       timestamp-from-1 = h;
       count-to-8 = omega arith;
       kind-known = ready .kind-known;
-      past-count = λ i _ b. getD-replicate 8 i noSlot 0 b;
+      past-count = λ i _ b. getD-replicate mostChildren i noSlot 0 b;
     }
 
 module _ (d : List ℕ → List ℕ → ℕ) (arity : ℕ) {n s : ℕ} {x : Newcomer} {rows : List Record}
@@ -70,7 +71,7 @@ module _ (d : List ℕ → List ℕ → ℕ) (arity : ℕ) {n s : ℕ} {x : Newc
   unfolding fresh
   shape =
       record {
-        eight = each (λ (r : Record). length (r .slots) ≡ 8) refl refl;
+        eight = each (λ (r : Record). length (r .slots) ≡ mostChildren) refl refl;
         sixteen = each (λ (r : Record). length (r .readings) ≡ 16) (ready .sixteen) refl;
         past = λ a h. after-other a (λ e. omega (arith, ready .slot-within)) ∙ was-free a;
       }

@@ -10,6 +10,7 @@ use lib.Dec.{eqb}
 use lib.ListN.{length, getD, set, take, drop, replicate, length-append, length-drop, length-replicate, getD-replicate}
 use lib.Seq.{set-at, take-suc, drop-cons, getD-append-add, getD-drop, ext-getD}
 use borrow.Author.Tests.{eq-eqb, ne-eqb}
+use Rattle.refusals.specs.Limits.{mostChildren}
 use Rattle.table.specs.Record.{Record, slot, noSlot, children}
 use Rattle.writing.specs.Put.{withSlots, withSlot, withCount}
 use Rattle.tree.specs.Remove.{except}
@@ -110,9 +111,10 @@ module _ (v : ℕ) (l : List ℕ) (k : ℕ) (within : k < length l) where
 
 -- ---- all child slots closed up, the last made 65,535, and the count lowered
 
-module _ (v : ℕ) (r : Record) (some : 1 ≤ r .count) (fits : r .count ≤ 8) (eight : length (r .slots) ≡ 8)
+module _ (v : ℕ) (r : Record) (some : 1 ≤ r .count) (fits : r .count ≤ mostChildren)
+    (eight : length (r .slots) ≡ mostChildren)
     (left : suc (length (except v (children r))) ≡ r .count)
-    (past : (i : ℕ) → r .count ≤ i → i < 8 → slot r i ≡ noSlot) where
+    (past : (i : ℕ) → r .count ≤ i → i < mostChildren → slot r i ≡ noSlot) where
   slots-closed :
       set (closing v (r .slots) (r .count)) (r .count - 1) noSlot
       ≡ except v (children r) ++ replicate (9 - r .count) noSlot
@@ -131,16 +133,16 @@ module _ (v : ℕ) (r : Record) (some : 1 ≤ r .count) (fits : r .count ≤ 8) 
       rest : noSlot ∷ drop (suc (length (except v (children r)))) (r .slots) ≡ replicate (9 - r .count) noSlot
       rest =
           let n = r .count in
-          let k : 9 - n ≡ suc (8 - n) = omega arith in
+          let k : 9 - n ≡ suc (mostChildren - n) = omega arith in
           rw (left, k)
           (ap (noSlot ∷_)
-          (ext-getD 0 (drop n (r .slots)) (replicate (8 - n) noSlot)
-          (length-drop n (r .slots) ∙ omega (arith, length-replicate (8 - n) noSlot))
+          (ext-getD 0 (drop n (r .slots)) (replicate (mostChildren - n) noSlot)
+          (length-drop n (r .slots) ∙ omega (arith, length-replicate (mostChildren - n) noSlot))
           (λ i h.
-          let b : i < 8 - n = omega (arith, length-drop n (r .slots)) in
+          let b : i < mostChildren - n = omega (arith, length-drop n (r .slots)) in
           getD-drop n (r .slots) i 0
           ∙ past (n + i) (omega arith) (omega arith)
-          ∙ sym (getD-replicate (8 - n) i noSlot 0 b))))
+          ∙ sym (getD-replicate (mostChildren - n) i noSlot 0 b))))
 
   pub disowning-is :
       withCount (withSlot (withSlots r (closing v (r .slots) (r .count))) (r .count - 1) noSlot) (r .count - 1)
@@ -151,6 +153,6 @@ module _ (v : ℕ) (r : Record) (some : 1 ≤ r .count) (fits : r .count ≤ 8) 
 -- v is a child of r, whose children are few, each once, and whose other slots are 65,535
 pub record Hosts (v : ℕ) (r : Record) : Type 0 where
   pub some : 1 ≤ r .count
-  pub to-8 : r .count ≤ 8
+  pub to-8 : r .count ≤ mostChildren
   pub left : suc (length (except v (children r))) ≡ r .count
-  pub past : (i : ℕ) → r .count ≤ i → i < 8 → slot r i ≡ noSlot
+  pub past : (i : ℕ) → r .count ≤ i → i < mostChildren → slot r i ≡ noSlot

@@ -3,6 +3,7 @@
 use Prim.Native.Nat.{ℕ, _≤_, _-_}
 use mathlib.Core.Path.{_≡_, sym, ap, subst, _∙_}
 use lib.ListN.{length}
+use Rattle.refusals.specs.Limits.{mostChildren}
 use Rattle.table.specs.Record.{Record, recordOf}
 use Rattle.table.specs.Stands.{Stands}
 use Rattle.steps.specs.Step.{awayFrom}
@@ -14,7 +15,8 @@ use Rattle.steps.proofs.distances.Statement.{statement}
 use Rattle.steps.proofs.distances.Tie as tie
 
 abbrev Inv-loop : tie.InvT-loop
-Inv-loop t kind q s n ds₀ k₀ ds k = (k ≤ n) × (length ds ≡ 8) × Compared (recordOf t) kind (q .readings) s k ds
+Inv-loop t kind q s n ds₀ k₀ ds k =
+    (k ≤ n) × (length ds ≡ mostChildren) × Compared (recordOf t) kind (q .readings) s k ds
 
 abbrev μ-loop : tie.MeasureT-loop
 μ-loop t kind q s n ds₀ k₀ ds k = n - k

@@ -61,8 +61,8 @@ smallest-at-most (suc k) f start = omega (arith, smallest-at-most k f start)
 -- ---- the distances compared
 
 module _ (R : ℕ → Record) (kind : ℕ) (q : List ℕ) (s : ℕ) where
-  pub compared-none : Compared R kind q s 0 (replicate 8 0)
-  compared-none = record { each = λ k h. absurd (omega arith); near = λ k. omega (arith, zeros-at 8 k) }
+  pub compared-none : Compared R kind q s 0 (replicate mostChildren 0)
+  compared-none = record { each = λ k h. absurd (omega arith); near = λ k. omega (arith, zeros-at mostChildren k) }
 
   pub compared-more :
       (k x : ℕ) (ds : List ℕ)

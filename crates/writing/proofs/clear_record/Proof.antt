@@ -1,17 +1,15 @@
 -- `writing::clear_record` meets its contract: all 64 bytes are made zero. Assumes nothing.
 use Rattle.writing.specs.Put.{freed}
-use Rattle.table.specs.Stands.{Stands}
+use Rattle.table.specs.Stands.{stands-place}
 use borrow.Author.Needs.{needs}
 use Rattle.writing.proofs.clear_record.Statement.{statement}
 use Rattle.writing.proofs.clear_record.Tie as tie
 
 mul-zero : tie.Need-mul-zero
-unfolding Stands
-mul-zero c = search needs
+mul-zero c = let h = stands-place _ _ (c .before .before .pre) in search needs
 
 zero-requires : tie.Need-zero-requires
-unfolding Stands
-zero-requires c κs = search needs
+zero-requires c κs = let h = stands-place _ _ (c .before .before .pre) in search needs
 
 same-length : tie.Need-same-length
 same-length c = search needs

@@ -1,21 +1,18 @@
 -- `writing::put_kind` meets its contract: the bytes written are those of the field. Assumes nothing.
 use Rattle.writing.specs.Put.{putKind}
-use Rattle.table.specs.Stands.{Stands}
+use Rattle.table.specs.Stands.{stands-place}
 use borrow.Author.Needs.{needs}
 use Rattle.writing.proofs.put_kind.Statement.{statement}
 use Rattle.writing.proofs.put_kind.Tie as tie
 
 mul-t : tie.Need-mul-t
-unfolding Stands
-mul-t c = search needs
+mul-t c = let h = stands-place _ _ (c .pre) in search needs
 
 add-t : tie.Need-add-t
-unfolding Stands
-add-t c = search needs
+add-t c = let h = stands-place _ _ (c .pre) in search needs
 
 slice-write-t : tie.Need-slice-write-t
-unfolding Stands
-slice-write-t c = search needs
+slice-write-t c = let h = stands-place _ _ (c .pre) in search needs
 
 same-length : tie.Need-same-length
 same-length c = search needs

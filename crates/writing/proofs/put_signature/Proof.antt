@@ -1,11 +1,11 @@
 -- `writing::put_signature` meets its contract. The loop's invariant: the first k readings are written. Assumes nothing.
-use Prim.Native.Nat.{_≤_, _-_}
+use Prim.Native.Nat.{_+_, _≤_, _-_}
 use mathlib.Core.Path.{_≡_, refl, _∙_}
 use lib.ListN.{length}
-use Rattle.table.specs.Record.{signatureAt, placeOf}
+use Rattle.table.specs.Record.{signatureAt, placeOf, recordLength}
 use Rattle.writing.specs.Put.{putReadings, putSignature}
 use Rattle.writing.specs.Run.{readings-more}
-use Rattle.table.specs.Stands.{Stands}
+use Rattle.table.specs.Stands.{stands-place}
 use native.Mathlib.Omega.{arith}
 use borrow.Author.Needs.{needs}
 use Rattle.writing.proofs.put_signature.Statement.{statement}
@@ -13,7 +13,10 @@ use Rattle.writing.proofs.put_signature.Tie as tie
 
 abbrev Inv-loop : tie.InvT-loop
 Inv-loop t₀ s v k₀ t k =
-    (k ≤ 16) × (length t ≡ length t₀) × (t ≡ putReadings k t₀ (signatureAt (placeOf s)) (v .readings))
+    (k ≤ 16)
+    × (length t ≡ length t₀)
+    × (t ≡ putReadings k t₀ (signatureAt (placeOf s)) (v .readings))
+    × (placeOf s + recordLength ≤ length t₀)
 
 abbrev μ-loop : tie.MeasureT-loop
 μ-loop t₀ s v k₀ t k = 16 - k
@@ -30,33 +33,27 @@ start c = c .before .before
 
 loop-holds : tie.Need-loop-holds Inv-loop μ-loop
 unfolding putReadings
-loop-holds c = search needs
+loop-holds c = let h = stands-place _ _ (c .before .pre) in search needs
 
 mul-put-u16 : tie.Need-mul-put-u16 Inv-loop μ-loop
-unfolding Stands
 mul-put-u16 c = search needs
 
 add-put-u16 : tie.Need-add-put-u16 Inv-loop μ-loop
-unfolding Stands
 add-put-u16 c = search needs
 
 mul-put-u16-2 : tie.Need-mul-put-u16-2 Inv-loop μ-loop
-unfolding Stands
 mul-put-u16-2 c = search needs
 
 add-put-u16-2 : tie.Need-add-put-u16-2 Inv-loop μ-loop
-unfolding Stands
 add-put-u16-2 c = search needs
 
 mul-put-u16-3 : tie.Need-mul-put-u16-3 Inv-loop μ-loop
-unfolding Stands
 mul-put-u16-3 c = search needs
 
 element-copy-out-put-u16 : tie.Need-element-copy-out-put-u16 Inv-loop μ-loop
 element-copy-out-put-u16 c = search needs
 
 put-u16-requires : tie.Need-put-u16-requires Inv-loop μ-loop
-unfolding Stands
 put-u16-requires c κs = search needs
 
 add-k : tie.Need-add-k Inv-loop μ-loop
@@ -82,6 +79,7 @@ loop-again c =
           _
           (l .inv .2)
           refl,
+      l .inv .3,
     )
 
 same-length : tie.Need-same-length Inv-loop μ-loop

@@ -7,6 +7,7 @@ use native.Mathlib.Omega.{arith}
 use borrow.Author.Tests.{not-false}
 use lib.ListN.{length}
 use lib.Seq.{sets, length-sets}
+use Rattle.refusals.specs.Limits.{mostChildren}
 use Rattle.table.specs.Record.{recordOf}
 use Rattle.steps.specs.Step.{awayIn, isEntered, cardWithin}
 use Rattle.walk.specs.State.{State, state, Fits, after, noted}
@@ -30,7 +31,7 @@ module _ {τ : ℕ} where
       ∙ ap (λ (z : ℕ). isEntered (recordOf (a .t .now) (a .s)) z (a .radius) (a .bound)) (tested c .pre .1 .0 .3))
 
   -- a table that can be walked has no record with more than eight children
-  pub eight : (c : At τ lts.After-children-of) → c .children-of .result ≤ 8
+  pub eight : (c : At τ lts.After-children-of) → c .children-of .result ≤ mostChildren
   eight c =
       let p = counted c .pre .1 .0 in omega (arith, c .children-of .ensures, p .0 .few _ (p .1))
 
