@@ -41,7 +41,7 @@ use Rattle.tree.specs.View.Under.{under}
 use Rattle.view.specs.Readable.{formed-walkable}
 use Rattle.view.specs.Freed.{freedAt}
 use Rattle.placing.specs.Changed.{changed}
-use Rattle.placing.specs.Hang.{leaves}
+use Rattle.placing.specs.Hangable.{leaves}
 use Rattle.removal.specs.Removal.{leaving, removed, unhung}
 use Rattle.removal.specs.Leaving.{Held}
 use Rattle.removal.specs.Lent.{held-stands}

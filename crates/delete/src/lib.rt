@@ -8,7 +8,7 @@ ghost use lib.ListN.{length};
 ghost use Rattle.refusals.specs.Limits.{mostChildren, lastTimestamp, knownArity};
 ghost use Rattle.refusals.specs.Outcome.{Outcome};
 ghost use Rattle.table.specs.Table.{recordsOf};
-ghost use Rattle.placing.specs.Hang.{leaves};
+ghost use Rattle.placing.specs.Hangable.{leaves};
 ghost use Rattle.delete.specs.Delete.{deleted, deleteOf};
 ghost use Rattle.delete.specs.Call.{outcomeAt};
 ghost use Rattle.delete.specs.Plan.{Deletable, Planned};

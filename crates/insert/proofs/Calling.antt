@@ -23,7 +23,7 @@ use Rattle.insert.specs.Insert.{refusalOf, inserted, insertOf}
 use Rattle.placing.specs.Changed.{changed}
 use Rattle.refusals.specs.Outcome.{Outcome, refused}
 use Rattle.insert.specs.Accepted.{comer, accepted-readable, accepted-ready, accepted-clock}
-use Rattle.placing.specs.Hang.{leaves}
+use Rattle.placing.specs.Hangable.{leaves}
 use Rattle.placing.specs.Placeable.{Placeable}
 
 module _ (l : List ℕ) (card kind arity : ℕ) (s : List ℕ) where

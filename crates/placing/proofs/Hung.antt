@@ -27,7 +27,7 @@ use Rattle.newcomer.specs.Kept.{Kept, Still, still-self, kept-adopting}
 use Rattle.placing.specs.Place.Row.{along-still}
 use Rattle.descent.specs.Descent.{raisedAlong, Descended, descent, descended}
 use Rattle.table.specs.Stands.{Stands, stands-same, in-stands, whole-same}
-use Rattle.placing.specs.Hang.{Hangable, hostOf}
+use Rattle.placing.specs.Hangable.{Hangable, hostOf}
 
 -- the walk of the newcomer in slot s of the table l is over: at slot `on`, with `count` distances worked out, and the
 -- bytes m

@@ -38,8 +38,8 @@ use Rattle.table.specs.Stands.{
   are-large,
   whole-same,
 }
-use Rattle.placing.specs.Hang.{Hangable}
-use Rattle.placing.specs.Hangable.{hangable}
+use Rattle.placing.specs.Hangable.{Hangable}
+use Rattle.placing.specs.HangableFrom.{hangable}
 use Rattle.view.specs.Readable.{formed-walkable}
 use Rattle.placing.specs.Placeable.{Placeable}
 

@@ -2,7 +2,7 @@
 pub mod Place
 pub mod Stored
 pub mod RowsFit
-pub mod Hang
 pub mod Hangable
+pub mod HangableFrom
 pub mod Placeable
 pub mod Changed

@@ -7,7 +7,7 @@ ghost use Rattle.distance.specs.Kind.{apart};
 ghost use Rattle.table.specs.Table.{recordsOf};
 ghost use Rattle.placing.specs.Place.{placed};
 ghost use Rattle.newcomer.specs.Newcomer.{newcomer};
-ghost use Rattle.placing.specs.Hang.{Hangable, leaves, hungIn};
+ghost use Rattle.placing.specs.Hangable.{Hangable, leaves, hungIn};
 ghost use Rattle.placing.specs.Placeable.{Placeable};
 use descent::descend;
 use distance::Signature;

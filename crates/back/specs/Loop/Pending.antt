@@ -28,8 +28,8 @@ use Rattle.survey.specs.Laws.{usedIn-most}
 use Rattle.tree.specs.Slots.{_∈_, ∈-decide}
 use Rattle.placing.specs.Place.{Placed}
 use Rattle.newcomer.specs.Newcomer.{brought}
-use Rattle.placing.specs.Hang.{Hangable, leaves}
-use Rattle.placing.specs.Hangable.{hangable}
+use Rattle.placing.specs.Hangable.{Hangable, leaves}
+use Rattle.placing.specs.HangableFrom.{hangable}
 use Rattle.age.specs.Age.{slotIn}
 use Rattle.back.specs.Back.{putBack, putBack-same}
 use Rattle.view.specs.Freed.{freedAt, freed-none, freed-out}
