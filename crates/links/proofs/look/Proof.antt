@@ -43,8 +43,8 @@ timed c = c .before .before .before
 abbrev like : tie.After-parent-of → tie.Else3
 like c = c .before .before .before
 
-abbrev begun : tie.After-parent-of → tie.Start
-begun c = start (carded (timed (like c)))
+abbrev outset : tie.After-parent-of → tie.Start
+outset c = start (carded (timed (like c)))
 
 abbrev records : tie.Start → ℕ → Record
 records b = recordOf (b .args .t .now)
@@ -60,14 +60,14 @@ in-use c = omega (arith, c .before .card-of .ensures, c .if1 .left)
 -- a used record that fits is seen too, with the root where it then is
 used-too :
     (c : tie.After-parent-of) (root : ℕ) →
-    let b = begun c in
+    let b = outset c in
     let read = timed (like c) in
     OneBefore (isRoot (records b)) (b .args .n) (b .args .s + 1) root
     → SeenBefore (b .args .n) (records b) (b .args .s + 1)
     (withUsed (b .args .seen) (kinded read .kind-of .result) (read .before .count-of .result)
     (read .timestamp-of .result) root)
 used-too c root =
-    let b = begun c in
+    let b = outset c in
     let read = timed (like c) in
     let tested = c .before .before in
     seen-used (b .args .n) (records b) (b .args .s) (b .args .seen) (b .pre .1 .3)
@@ -178,13 +178,13 @@ parent-of-requires c κs = here (start (carded (timed (c .before .before))))
 
 with-used-requires : tie.Need-with-used-requires
 with-used-requires c κs =
-    let b = begun (c .before) in
+    let b = outset (c .before) in
     omega (arith, b .pre .1 .3 .few, b .pre .1 .1, b .pre .1 .2)
 
 returns-5 : tie.Need-returns-5
 returns-5 c =
     let hung = c .before .before in
-    let b = begun hung in
+    let b = outset hung in
     looked-fit (b .args .n) (records b) (b .args .s) (c .with-used .result) _ refl
     (used-too hung (b .args .seen .root)
     (root-still (b .args .n) (records b) (b .args .s) (b .args .seen) (b .pre .1 .3)
@@ -200,7 +200,7 @@ misfit-requires-4 c κs = search needs
 returns-6 : tie.Need-returns-6
 returns-6 c =
     let hung = c .before .before .before .before in
-    let b = begun hung in
+    let b = outset hung in
     looked-unfit (b .args .n) (records b) (b .args .s) (c .misfit4 .result) (b .args .seen)
     (root-twice (b .args .n) (records b) (b .args .s) (b .args .seen) (b .pre .1 .3)
     (hung .parent-of .result)
@@ -213,13 +213,13 @@ returns-6 c =
 
 with-used-requires-2 : tie.Need-with-used-requires-2
 with-used-requires-2 c κs =
-    let b = begun (c .before .before .before) in
+    let b = outset (c .before .before .before) in
     omega (arith, b .pre .1 .3 .few, b .pre .1 .1, b .pre .1 .2)
 
 returns-7 : tie.Need-returns-7
 returns-7 c =
     let hung = c .before .before .before .before in
-    let b = begun hung in
+    let b = outset hung in
     looked-fit (b .args .n) (records b) (b .args .s) (c .with-used2 .result) _ refl
     (used-too hung (b .args .s)
     (root-here (b .args .n) (records b) (b .args .s) (b .args .seen) (b .pre .1 .3)

@@ -85,12 +85,12 @@ module _ (τ : ℕ) where
       omega (arith, start c .pre .1 .3, ap length first)
 
   -- this record's key is written: the children's turn is left
-  begun : (c : gather-lts.After-children-of (Known τ) (gather-at τ) gather.Post Inv-loop μ-loop) →
+  own-key-written : (c : gather-lts.After-children-of (Known τ) (gather-at τ) gather.Post Inv-loop μ-loop) →
       let a = start (some c) .args in
       let R = recordOf (a .t .now) in
       gathered R (noted c .note-key .last .1 .1 .0) (a .m + 1) (Gathering.restFrom R (a .left - 1) (a .a) 0)
       ≡ gathered R (a .keys .now) (a .m) (slotsUnder R (a .left) (a .a))
-  begun c =
+  own-key-written c =
       let a = start (some c) .args in
       let R = recordOf (a .t .now) in
       let rest = Gathering.restFrom R (a .left - 1) (a .a) 0 in
@@ -116,7 +116,7 @@ module _ (τ : ℕ) where
       let R = recordOf (a .t .now) in
       gathered R (c .loop .keys) (c .loop .at) (Gathering.restFrom R (a .left - 1) (a .a) (c .loop .k))
       ≡ gathered R (a .keys .now) (a .m) (slotsUnder R (a .left) (a .a))
-  on c = c .loop .inv .2 ∙ begun (c .before)
+  on c = c .loop .inv .2 ∙ own-key-written (c .before)
 
   reach : (c : gather-lts.At-loop (Known τ) (gather-at τ) gather.Post Inv-loop μ-loop) →
       let a = start (some (c .before)) .args in
