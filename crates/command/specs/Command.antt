@@ -54,17 +54,14 @@ ofListing o l = record { refusal = o .refusal; count = o .count; found = o .foun
 abbrev pub ofNumber : ℕ → List ℕ → List ℕ → Done
 ofNumber k l list = record { refusal = k; count = 0; found = 0; table = l; list = list }
 
--- a report of a number, with nothing found and counted
-pub number-reported :
-    (refusal count found k : ℕ) (l list : List ℕ)
-    → refusal ≡ k
-    → count ≡ 0
-    → found ≡ 0
+-- a report of these numbers
+pub same-report :
+    {refusal count found k n m : ℕ} (l list : List ℕ)
+    → (refusal ≡ k) × (count ≡ n) × (found ≡ m)
     → _≡_ {A = Done}
     (record { refusal = refusal; count = count; found = found; table = l; list = list })
-    (ofNumber k l list)
-number-reported refusal count found k l list e f g i =
-    record { refusal = e i; count = f i; found = g i; table = l; list = list }
+    (record { refusal = k; count = n; found = m; table = l; list = list })
+same-report l list e i = record { refusal = e .0 i; count = e .1 i; found = e .2 i; table = l; list = list }
 
 -- "operation (1 insert, 2 delete, 3 search, 4 check) .. another operation gives refusal 3, before any other"
 unfoldable pub commandOf : List ℕ → List ℕ → List ℕ → Done

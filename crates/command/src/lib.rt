@@ -11,13 +11,13 @@ pub struct Report {
     pub found: u32,
 }
 
-fn no_count(refusal: u8) -> Report
-    ensures { λ r. ⌜ (r .refusal ≡ refusal) × (r .count ≡ 0) × (r .found ≡ 0) ⌝ }
+fn told(refusal: u8, count: u32, found: u32) -> Report
+    ensures { λ r. ⌜ (r .refusal ≡ refusal) × (r .count ≡ count) × (r .found ≡ found) ⌝ }
 {
     Report {
-        refusal: refusal,
-        count: 0,
-        found: 0,
+        refusal,
+        count,
+        found,
     }
 }
 
@@ -42,30 +42,18 @@ pub fn run(command: &[u8], table: &mut [u8], list: &mut [u32]) -> Report
     let radius = number::get_u32(command, 8);
     if operation == 1 {
         let r = insert::insert(table, card, kind, arity, &command[16..48]);
-        return Report {
-            refusal: r.refusal,
-            count: r.count,
-            found: 0,
-        };
+        return told(r.refusal, r.count, 0);
     }
     if operation == 2 {
         let r = delete::delete(table, card, arity);
-        return Report {
-            refusal: r.refusal,
-            count: r.count,
-            found: 0,
-        };
+        return told(r.refusal, r.count, 0);
     }
     if operation == 3 {
         let r = search::search(table, kind, &command[16..48], radius, list);
-        return Report {
-            refusal: r.refusal,
-            count: r.count,
-            found: r.found,
-        };
+        return told(r.refusal, r.count, r.found);
     }
     if operation == 4 {
-        return no_count(soundness::check(table));
+        return told(soundness::check(table), 0, 0);
     }
-    no_count(ARGUMENT)
+    told(ARGUMENT, 0, 0)
 }

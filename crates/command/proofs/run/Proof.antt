@@ -15,7 +15,7 @@ use Rattle.command.specs.Command.{
   signature,
   ofChange,
   ofListing,
-  number-reported,
+  same-report,
   command-insert,
   command-delete,
   command-search,
@@ -73,17 +73,21 @@ part-insert-end c = search needs
 insert-requires : tie.Need-insert-requires
 insert-requires c κs = search needs
 
+told-requires : tie.Need-told-requires
+told-requires c κs = search needs
+
 same-length : tie.Need-same-length
 same-length c = search needs
 
 returns : tie.Need-returns
 returns c =
-    let done = c .before .before in
+    let done = c .before .before .before in
     let asked = done .before .before .before in
     let a = read (asked .before) .args in
     let q = a .command .now in
     let l = a .table .now in
-    ap
+    same-report _ (a .list .now) (c .told .ensures)
+    ∙ ap
     (λ (o : Outcome). ofChange o (a .list .now))
     (done .insert .ensures
     ∙ ap
@@ -94,18 +98,22 @@ returns c =
 delete-requires : tie.Need-delete-requires
 delete-requires c κs = search needs
 
+told-requires-2 : tie.Need-told-requires-2
+told-requires-2 c κs = search needs
+
 same-length-2 : tie.Need-same-length-2
 same-length-2 c = search needs
 
 returns-2 : tie.Need-returns-2
 returns-2 c =
-    let done = c .before .before in
+    let done = c .before .before .before in
     let asked = done .before .before in
     let first = asked .before .before in
     let a = read first .args in
     let q = a .command .now in
     let l = a .table .now in
-    ap
+    same-report _ (a .list .now) (c .told2 .ensures)
+    ∙ ap
     (λ (o : Outcome). ofChange o (a .list .now))
     (done .delete .ensures ∙ ap (λ (k : ℕ). deleteOf l k (arity q)) (card-read first .get-u32 .ensures))
     ∙ sym (command-delete q l (a .list .now) (asked .if2 .taken))
@@ -122,6 +130,9 @@ part-search-end c = search needs
 search-requires : tie.Need-search-requires
 search-requires c κs = search needs
 
+told-requires-3 : tie.Need-told-requires-3
+told-requires-3 c κs = search needs
+
 same-length-3 : tie.Need-same-length-3
 same-length-3 c = search needs
 
@@ -130,13 +141,14 @@ same-length-4 c = search needs
 
 returns-3 : tie.Need-returns-3
 returns-3 c =
-    let done = c .before .before in
+    let done = c .before .before .before in
     let asked = done .before .before .before .before in
     let first = third (asked .before) in
     let a = read first .args in
     let q = a .command .now in
     let l = a .table .now in
-    ap
+    same-report l _ (c .told3 .ensures)
+    ∙ ap
     (λ (o : Listing). ofListing o l)
     (done .search .ensures
     ∙ ap (λ (x : ℕ). searchOf l (kind q) (signature q) x (a .list .now)) (first .get-u322 .ensures))
@@ -145,8 +157,8 @@ returns-3 c =
 check-requires : tie.Need-check-requires
 check-requires c κs = search needs
 
-no-count-requires : tie.Need-no-count-requires
-no-count-requires c κs = search needs
+told-requires-4 : tie.Need-told-requires-4
+told-requires-4 c κs = search needs
 
 same-length-5 : tie.Need-same-length-5
 same-length-5 c = search needs
@@ -157,12 +169,12 @@ returns-4 c =
     let a = read (fourth (asked .before)) .args in
     let q = a .command .now in
     let l = a .table .now in
-    let e = c .no-count .ensures in
-    number-reported _ _ _ (checkOf l) l (a .list .now) (e .0 ∙ c .before .check .ensures) (e .1) (e .2)
+    let e = c .told4 .ensures in
+    same-report l (a .list .now) (e .0 ∙ c .before .check .ensures, e .1, e .2)
     ∙ sym (command-check q l (a .list .now) (asked .if4 .taken))
 
-no-count-requires-2 : tie.Need-no-count-requires-2
-no-count-requires-2 c κs = search needs
+told-requires-5 : tie.Need-told-requires-5
+told-requires-5 c κs = search needs
 
 returns-5 : tie.Need-returns-5
 returns-5 c =
@@ -172,8 +184,7 @@ returns-5 c =
     let a = read (fourth no-search) .args in
     let q = a .command .now in
     let l = a .table .now in
-    let e = c .no-count2 .ensures in
-    number-reported _ _ _ ARGUMENT l (a .list .now) (e .0) (e .1) (e .2)
+    same-report l (a .list .now) (c .told5 .ensures)
     ∙ sym
     (command-other
     q
@@ -197,21 +208,24 @@ run-spec =
     part-insert-start
     part-insert-end
     insert-requires
+    told-requires
     same-length
     returns
     delete-requires
+    told-requires-2
     same-length-2
     returns-2
     sub-search
     part-search-start
     part-search-end
     search-requires
+    told-requires-3
     same-length-3
     same-length-4
     returns-3
     check-requires
-    no-count-requires
+    told-requires-4
     same-length-5
     returns-4
-    no-count-requires-2
+    told-requires-5
     returns-5)
