@@ -206,8 +206,8 @@ fn look(t: &[u8], n: usize, s: usize, seen: Seen, first: &[u64; 9], last: &[u64;
     with_used(seen, kind, count, timestamp, s)
 }
 
-// The whole pass, up to the first record that does not fit. At each turn it has seen the records before s, and they
-// fit.
+// The whole pass, up to the first record that does not fit or is a second root. At each turn it has seen the records
+// before s, and they fit.
 pub fn links(t: &[u8], n: usize) -> Seen
     requires { ⌜ StandTo (now t) n × (n ≤ mostRecords) ⌝ }
     ensures { λ r. ⌜ Ended n (recordOf (now (t .entry))) r ⌝ }

@@ -5,4 +5,3 @@ pub mod Climb
 pub mod Route
 pub mod HoldsCard
 pub mod Check
-pub mod Edges

@@ -65,12 +65,7 @@ free-bytes n i = omega (arith, zeros-at (placeOf n) i)
 
 -- ---- a test for a free record
 
--- r says whether the record in slot s is free
-pub record TellsFree (l : List ℕ) (s : ℕ) (r : Bool) : Type 0 where
-  pub says : r ≡ true → recordOf l s ≡ free
-  pub said : recordOf l s ≡ free → r ≡ true
-
--- it is exactly if its eight words are zero
+-- the record in slot s is free exactly if its eight words are zero
 pub zero-words-free : (l : List ℕ) (s : ℕ) → Bytes l → ZeroWords l (placeOf s) 8 → recordOf l s ≡ free
 unfolding recordOf
 zero-words-free l s = words-free l (placeOf s)

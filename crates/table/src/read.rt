@@ -1,13 +1,13 @@
 // The fields of the record in slot s, read where they stand.
 ghost use mathlib.Core.Path.{_≡_};
 ghost use Prim.Native.Nat.{_≤_, _<_};
+ghost use Rattle.places.specs.Decides.{Decides};
 ghost use Rattle.distance.specs.Signature.{wordOf};
 ghost use Rattle.distance.specs.Laws.{farthest};
 ghost use Rattle.distance.specs.Kind.{apart};
 ghost use Rattle.refusals.specs.Limits.{mostChildren};
-ghost use Rattle.table.specs.Record.{recordOf, slot};
+ghost use Rattle.table.specs.Record.{recordOf, slot, free};
 ghost use Rattle.table.specs.Stands.{Stands};
-ghost use Rattle.table.specs.Same.{TellsFree};
 use super::layout::COUNT;
 use super::layout::KIND;
 use super::layout::PARENT;
@@ -110,7 +110,7 @@ pub fn away_from(t: &[u8], s: usize, kind: u8, q: Signature) -> u32
 // Whether the record is free, that is, all zero. At each turn its first k words of eight bytes are zero.
 pub fn is_free(t: &[u8], s: usize) -> bool
     requires { ⌜ Stands (now t) s ⌝ }
-    ensures { λ r. ⌜ TellsFree (now (t .entry)) s r ⌝ }
+    ensures { λ r. ⌜ Decides r (recordOf (now (t .entry)) s ≡ free) ⌝ }
 {
     for k in 0..8usize {
         if number::get_u64(t, s * RECORD + 8 * k) != 0 {

@@ -12,10 +12,9 @@ use borrow.Author.Tests.{le-leb, lt-leb, ltb-true, eq-eqb, ne-eqb, not-true, not
 use Rattle.places.specs.Choice.{pick, implies, and-left, and-right}
 use Rattle.places.specs.Test.{allTo, all-none, all-fails, all-more, countTo, count-more, count-still}
 use Rattle.places.specs.Sum.{sumTo, sum-more, sum-still}
-use Rattle.places.specs.Decides.{decides-same}
+use Rattle.places.specs.Decides.{Decides, decides-same}
 use Rattle.distinct.specs.Distinct.{distinctTo, distinct-none, distinct-more}
-use Rattle.table.specs.Record.{Record, Used, used, noSlot, recordOf}
-use Rattle.table.specs.Same.{TellsFree}
+use Rattle.table.specs.Record.{Record, Used, used, free, noSlot, recordOf}
 use Rattle.judge.specs.WellFormed.{isFree, isFilled, isRoot}
 use Rattle.judge.specs.OneDecided.{free-decided}
 use Rattle.judge.specs.Counted.{kindBefore, sameKind, allLinked, fits, usedCount, rootCount, childCount, agree}
@@ -44,8 +43,8 @@ both-not false true = refl
 both-not false false = refl
 
 -- the read of a free record is the test of one
-pub told : (l : List ℕ) (s : ℕ) (ok : Bool) → TellsFree l s ok → ok ≡ isFree (recordOf l s)
-told l s ok h = decides-same (record { shows = h .says; passes = h .said }) (free-decided (recordOf l s))
+pub told : (l : List ℕ) (s : ℕ) (ok : Bool) → Decides ok (recordOf l s ≡ free) → ok ≡ isFree (recordOf l s)
+told l s ok h = decides-same h (free-decided (recordOf l s))
 
 module _ (n : ℕ) (R : ℕ → Record) where
   -- one record more: the largest timestamp by whether it is used

@@ -62,8 +62,8 @@ returns c =
     let at = loop (c .before) in
     let a = start at .args in
     record {
-      says = λ e. absurd (false≢true e);
-      said = λ e.
+      shows = λ e. absurd (false≢true e);
+      passes = λ e.
           absurd
           (c .if1 .taken
           (c .before .get-u64 .ensures ∙ free-zero-words (a .t .now) (a .s) (bytes at) e (at .loop .k) (omega arith)));
@@ -86,8 +86,8 @@ returns-2 c =
     let at = c .before in
     let a = start at .args in
     record {
-      says = λ e. zero-words-free (a .t .now) (a .s) (bytes at) (λ k p. at .loop .inv .1 k (omega arith));
-      said = λ e. refl;
+      shows = λ e. zero-words-free (a .t .now) (a .s) (bytes at) (λ k p. at .loop .inv .1 k (omega arith));
+      passes = λ e. refl;
     }
 
 pub is-free-spec : {M : Type 1} → statement M
