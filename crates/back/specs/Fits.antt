@@ -1,7 +1,7 @@
 -- Where the rows before and what the waiting records bring fit their bytes, so do the rows afterwards, if the clock
 -- does not pass the last timestamp. Each placing keeps it. Assumes nothing.
 use Prim.Native.Nat.{ℕ, _+_, _^_, _≤_, _<_}
-use mathlib.Core.Path.{_≡_, refl}
+use mathlib.Core.Path.{refl}
 use mathlib.Core.List.{List, [], _∷_, List·Memᴰ·head as first, List·Memᴰ·tail as later}
 use native.Mathlib.Omega.{arith}
 use lib.ListN.{length}

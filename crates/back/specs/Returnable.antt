@@ -4,8 +4,7 @@
 use Prim.Native.Nat.{ℕ, suc, _+_, _≤_, _<_}
 use mathlib.Core.Path.{_≡_, refl, sym, ap, _∙_}
 use mathlib.Core.Bool.{true}
-use mathlib.Core.List.{List, [], _∷_, List·Memᴰ·head as first, List·Memᴰ·tail as later}
-use native.Mathlib.Omega.{arith}
+use mathlib.Core.List.{List, _∷_, List·Memᴰ·head as first, List·Memᴰ·tail as later}
 use native.Mathlib.Decide.{ℕ-discrete}
 use lib.ListN.{length}
 use Rattle.distance.specs.Kind.{apart, knownKind}
@@ -18,7 +17,7 @@ use Rattle.tree.specs.Slots.{_∈_, Distinct}
 use Rattle.view.specs.Shaped.{Shaped}
 use Rattle.view.specs.Sound.{SoundTable}
 use Rattle.placing.specs.Place.{placed}
-use Rattle.newcomer.specs.Newcomer.{Newcomer, brought}
+use Rattle.newcomer.specs.Newcomer.{brought}
 use Rattle.placing.specs.Place.Settled.{Ready, Settled, settled-usedIn, settled-largest, settled-kinds}
 use Rattle.placing.specs.Place.Keeps.{placed-length, placed-settled, placed-sound-table}
 

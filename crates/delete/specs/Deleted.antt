@@ -1,6 +1,6 @@
 -- What the rule leaves: the slots that wait may go back over what stays (`removed-returnable`), so all that is true of
 -- putting back is true of a deletion. Assumes nothing.
-use Prim.Native.Nat.{ℕ, _≤_, _<_}
+use Prim.Native.Nat.{ℕ, _≤_}
 use mathlib.Core.Path.{_≡_, refl, ap, _∙_}
 use mathlib.Core.Logic.{_↔_}
 use mathlib.Core.List.{List, List·Memᴰ·head as first}

@@ -23,16 +23,7 @@ use Rattle.removal.specs.Leaving.{
   below-iff,
   below-distinct,
 }
-use Rattle.age.specs.Age.{
-  slotSpan,
-  ageKey,
-  slotIn,
-  inOrder-first,
-  byAge,
-  byAge-iff,
-  byAge-distinct,
-  byAge-length,
-}
+use Rattle.age.specs.Age.{slotSpan, ageKey, slotIn, inOrder-first, byAge-iff, byAge-distinct, byAge-length}
 use Rattle.delete.specs.Delete.{waiting}
 
 -- the keys of all that leave, in age order

@@ -23,7 +23,6 @@ use Rattle.table.specs.Same.{slots-length}
 use Rattle.table.specs.Records.{records-at}
 use Rattle.table.specs.Fitting.{record-fits}
 use Rattle.writing.specs.Laws.{Became}
-use Rattle.tree.specs.Insert.{nearest}
 use Rattle.tree.specs.View.{away as away′}
 use Rattle.view.specs.View.{viewOf}
 use Rattle.view.specs.Children.{children-length, children-slot}

@@ -1,7 +1,7 @@
 -- Where that holds which is asked of a table after every history (`Holds`): in a cleared table, and in the bytes of a
 -- row of records that they hold (`table-holds`). Assumes nothing.
 use Prim.Native.Nat.{ℕ, _≤_}
-use mathlib.Core.Path.{_≡_, ap, subst, _∙_}
+use mathlib.Core.Path.{_≡_, ap, subst}
 use mathlib.Core.Bool.{true}
 use mathlib.Core.Logic.{_↔_}
 use mathlib.Core.List.{List, [], List·Memᴰ, List·Memᴰ·not-nil}

@@ -2,7 +2,7 @@
 -- table (`hangable`). Insert has one slot that waits, delete those of all records that stood below the deleted card.
 -- Assumes nothing.
 use Prim.Native.Nat.{ℕ, _≤_, _<_}
-use mathlib.Core.Path.{_≡_, ap, _∙_}
+use mathlib.Core.Path.{_≡_, ap}
 use mathlib.Core.List.{List}
 use native.Mathlib.Omega.{arith}
 use lib.ListN.{length}
@@ -19,10 +19,10 @@ use Rattle.tree.specs.Insert.{path, last, attach}
 use Rattle.tree.specs.Insert.Path.{attach-∈}
 use Rattle.tree.specs.Insert.Same.{path-same, path-in}
 use Rattle.view.specs.View.{viewOf}
-use Rattle.view.specs.Shaped.{Shaped, shaped-bytes}
+use Rattle.view.specs.Shaped.{Shaped}
 use Rattle.view.specs.Children.{children-length}
 use Rattle.view.specs.Survey.{usedIn-usedCount, rootOf-is}
-use Rattle.view.specs.Formed.{free-or-used, count-fits, formed-view}
+use Rattle.view.specs.Formed.{count-fits, formed-view}
 use Rattle.placing.specs.Place.Agree.{Agree, Unlinked}
 use Rattle.placing.specs.Place.Room.{attach-room}
 use Rattle.table.specs.Stands.{Stands, Walkable, stands-in}

@@ -1,6 +1,6 @@
 -- A card's slot in lent bytes: it stands there, and so does its parent, which can disown it; and the bytes after each
 -- of the two writes of a removal (`disowned`, `unhung-freed`). Assumes nothing.
-use Prim.Native.Nat.{ℕ, _≤_, _<_}
+use Prim.Native.Nat.{ℕ, _<_}
 use mathlib.Core.Path.{_≡_, sym, ap, _∙_}
 use mathlib.Core.List.{List}
 use native.Mathlib.Omega.{arith}

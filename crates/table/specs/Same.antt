@@ -1,16 +1,15 @@
 -- What is known of the record in slot s of any bytes, without where it stands: callers use these laws and not the text
 -- of `recordOf`. Assumes nothing.
 use Prim.Native.Nat.{ℕ, _+_, _*_, _≤_, _<_}
-use mathlib.Core.Path.{_≡_, sym, _∙_}
-use mathlib.Core.Bool.{Bool, true}
+use mathlib.Core.Path.{_≡_}
 use mathlib.Core.List.{List}
 use native.Mathlib.Omega.{arith}
-use lib.ListN.{getD, length, replicate, List·getD-eq-default}
+use lib.ListN.{length, replicate, List·getD-eq-default}
 use Rattle.places.specs.Fill.{zeros-at}
 use Rattle.number.specs.Number.{numberAt}
 use Rattle.number.specs.Frame.{Bytes}
 use Rattle.refusals.specs.Limits.{mostChildren}
-use Rattle.table.specs.Record.{Record, free, slot, slotsAt, placeOf, recordOf}
+use Rattle.table.specs.Record.{free, slot, slotsAt, placeOf, recordOf}
 use Rattle.table.specs.Table.{recordsIn, freeTable}
 use Rattle.table.specs.Stands.{WholeRecords, AreRecords, are-whole, are-in, past-place}
 use Rattle.table.specs.Fields.{slot-in, slots-eight, readings-sixteen}

@@ -1,6 +1,6 @@
 -- Which records stand in lent bytes: what a contract over a table asks of it, in place of where its bytes end. Callers
 -- use the laws below and not the text of these names. Assumes nothing.
-use Prim.Native.Nat.{ℕ, _+_, _*_, _/_, _%_, _≤_, _<_}
+use Prim.Native.Nat.{ℕ, _+_, _/_, _%_, _≤_, _<_}
 use mathlib.Core.Path.{_≡_, ap, sym, _∙_}
 use mathlib.Core.Bool.{true, _&&_}
 use mathlib.Core.List.{List}

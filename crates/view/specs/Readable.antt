@@ -1,7 +1,7 @@
 -- A table that was admitted, as the walks and the tree see it: it can be walked, and it has the form that the tree's
 -- theorems speak of. Assumes nothing.
 use Prim.Native.Nat.{ℕ, _≤_}
-use mathlib.Core.Path.{_≡_, ap}
+use mathlib.Core.Path.{ap}
 use mathlib.Core.List.{List}
 use native.Mathlib.Omega.{arith}
 use Rattle.table.specs.Record.{Record, recordOf}

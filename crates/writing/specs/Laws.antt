@@ -17,8 +17,6 @@ use Rattle.table.specs.Record.{
   timestampAt,
   radiusAt,
   parentAt,
-  countAt,
-  kindAt,
   slotsAt,
   signatureAt,
   placeOf,

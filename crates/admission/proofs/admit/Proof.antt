@@ -1,8 +1,8 @@
 -- `admission::admit` meets its contract: it ends refused by the size, refused by the form, or with what the pass found.
 -- Assumes nothing.
 use Prim.Native.Nat.{ℕ}
-use mathlib.Core.Path.{_≡_, refl, sym, ap, _∙_}
-use mathlib.Core.Bool.{true, false}
+use mathlib.Core.Path.{_≡_, refl, sym, _∙_}
+use mathlib.Core.Bool.{true}
 use mathlib.Core.List.{List}
 use lib.ListN.{length}
 use native.Mathlib.Omega.{arith}
@@ -11,7 +11,6 @@ use borrow.Author.Tests.{not-true, not-false}
 use Rattle.table.specs.Record.{recordOf}
 use Rattle.table.specs.Table.{rightSize, recordsIn}
 use Rattle.table.specs.Stands.{right-are, right-most, are-stand}
-use Rattle.judge.specs.WellFormed.{wellFormed}
 use Rattle.admission.specs.Admission.{admits-size, admits-table, admits-done, past-kind}
 use Rattle.admission.specs.Verdict.{seen-answers}
 use Rattle.admission.proofs.admit.Statement.{statement}

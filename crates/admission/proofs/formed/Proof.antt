@@ -2,7 +2,7 @@
 -- proved equal to the paper's clauses. Assumes nothing.
 use Prim.Native.Nat.{ℕ, _≤_}
 use mathlib.Core.Path.{_≡_, sym, _∙_}
-use mathlib.Core.Bool.{true, false}
+use mathlib.Core.Bool.{true}
 use Rattle.distinct.specs.Distinct.{distinctTo}
 use Rattle.table.specs.Record.{Record, recordOf, noSlot}
 use Rattle.admission.specs.Verdict.{

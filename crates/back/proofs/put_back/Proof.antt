@@ -1,6 +1,6 @@
 -- `back::back::put_back` meets its contract. The loop's invariant: those in the first i keys are back and the others
 -- wait, so that what is left to do leads to the end of the rule. Assumes nothing.
-use Prim.Native.Nat.{ℕ, _+_, _*_, _-_, _≤_}
+use Prim.Native.Nat.{_+_, _*_, _-_, _≤_}
 use mathlib.Core.Path.{_≡_, refl, _∙_}
 use mathlib.Core.List.{_∷_, map}
 use native.Mathlib.Omega.{arith}

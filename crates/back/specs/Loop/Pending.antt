@@ -12,17 +12,7 @@ use Rattle.refusals.specs.Limits.{mostRecords, mostChildren, lastTimestamp}
 use Rattle.table.specs.Record.{Record, recordOf, largestTable}
 use Rattle.table.specs.Table.{recordsIn, recordsOf, at}
 use Rattle.table.specs.Records.{records-at}
-use Rattle.table.specs.Stands.{
-  Stands,
-  WholeRecords,
-  Walkable,
-  whole-are,
-  whole-same,
-  stands-in,
-  in-stands,
-  in-same,
-  are-large,
-}
+use Rattle.table.specs.Stands.{Stands, WholeRecords, Walkable, whole-are, whole-same, stands-in, in-same, are-large}
 use Rattle.survey.specs.Survey.{usedIn, rootOf}
 use Rattle.survey.specs.Laws.{usedIn-most}
 use Rattle.tree.specs.Slots.{_∈_, ∈-decide}

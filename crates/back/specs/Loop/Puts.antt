@@ -1,9 +1,9 @@
 -- The insert rule on rows of which some wait and still have their bytes: it looks at no record that waits, so it leaves
 -- the same records and gives the same count as where those that wait are free (`puts-freed`, `puts-count`), and those
 -- that wait are as they were (`puts-waits`). By Agree, with the slots that wait. Assumes nothing.
-use Prim.Native.Nat.{ℕ, suc, _+_, _≤_, _<_}
+use Prim.Native.Nat.{ℕ, _+_, _≤_, _<_}
 use mathlib.Core.Path.{_≡_, refl, sym, ap, _∙_}
-use mathlib.Core.List.{List, [], _∷_, List·Memᴰ·head as first, List·Memᴰ·tail as later}
+use mathlib.Core.List.{List, _∷_, List·Memᴰ·head as first, List·Memᴰ·tail as later}
 use native.Mathlib.Omega.{arith}
 use native.Mathlib.Decide.{ℕ-discrete}
 use lib.Dec.{eqb}

@@ -2,7 +2,7 @@
 -- (`turn-next`), and that what is then left to do leads to the same end (`turn-rest`). Assumes nothing.
 use Prim.Native.Nat.{ℕ, _+_, _≤_, _<_}
 use mathlib.Core.Path.{_≡_, refl, sym, ap, _∙_}
-use mathlib.Core.List.{List, [], _∷_, List·Memᴰ·head as first, List·Memᴰ·tail as later}
+use mathlib.Core.List.{List, _∷_, List·Memᴰ·tail as later}
 use native.Mathlib.Omega.{arith}
 use native.Mathlib.Decide.{ℕ-discrete}
 use lib.Dec.{eqb}
@@ -11,7 +11,7 @@ use borrow.Author.Tests.{eq-eqb, ne-eqb}
 use Rattle.places.specs.Choice.{pick}
 use Rattle.distance.specs.Kind.{apart}
 use Rattle.refusals.specs.Limits.{mostChildren, lastTimestamp}
-use Rattle.table.specs.Record.{Record, Used, slot}
+use Rattle.table.specs.Record.{Record, slot}
 use Rattle.table.specs.Table.{at}
 use Rattle.judge.specs.WellFormed.{WellFormed}
 use Rattle.survey.specs.Survey.{usedIn, rootOf, largestTimestamp}

@@ -4,11 +4,9 @@ use Prim.Native.Nat.{ℕ}
 use mathlib.Core.Path.{sym, ap, _∙_}
 use Rattle.insert.specs.Insert.{insertOf}
 use Rattle.refusals.specs.Outcome.{Outcome}
-use Rattle.refusals.specs.Refusal.{ARGUMENT}
 use Rattle.delete.specs.Delete.{deleteOf}
 use Rattle.search.specs.Search.{searchOf}
 use Rattle.search.specs.Search.{Outcome as Listing}
-use Rattle.soundness.specs.Soundness.{checkOf}
 use Rattle.command.specs.Command.{
   kind,
   arity,

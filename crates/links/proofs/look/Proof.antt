@@ -1,7 +1,7 @@
 -- `links::look` meets its contract: a record that does not fit, or a second root, ends the look, a record without card
 -- adds its slot, and any other its own numbers. Assumes nothing.
 use Prim.Native.Nat.{ℕ, _+_}
-use mathlib.Core.Path.{_≡_, refl, sym, _∙_}
+use mathlib.Core.Path.{refl, sym, _∙_}
 use Rattle.table.specs.Record.{Record, Used, recordOf}
 use Rattle.table.specs.Stands.{Stands, stands-below}
 use Rattle.judge.specs.WellFormed.{isRoot}

@@ -1,7 +1,4 @@
 -- `links::with_used` meets its contract: the larger timestamp is that of the call. Assumes nothing.
-use Prim.Native.Nat.{_+_}
-use mathlib.Core.Bool.{true, _&&_}
-use lib.Dec.{ltb}
 use borrow.Author.Needs.{needs}
 use Rattle.links.proofs.with_used.Statement.{statement}
 use Rattle.links.proofs.with_used.Tie as tie

@@ -1,5 +1,5 @@
 -- `soundness::record_ok` meets its contract: a free record passes, and a used one if its climb does. Assumes nothing.
-use mathlib.Core.Path.{_≡_, sym, _∙_}
+use mathlib.Core.Path.{sym, _∙_}
 use native.Mathlib.Omega.{arith}
 use Rattle.table.specs.Record.{Used, recordOf}
 use Rattle.table.specs.Table.{recordsIn}
