@@ -41,14 +41,6 @@ all-fails n p k b e = go (allTo n p) refl
     go true h = absurd (false≢true (sym e ∙ all-at n p h k b))
     go false h = refl
 
--- and so one among the first m
-pub all-short : (m n : ℕ) (p : ℕ → Bool) → m ≤ n → allTo m p ≡ false → allTo n p ≡ false
-all-short m n p b e = go (allTo n p) refl
-  where
-    go : (t : Bool) → allTo n p ≡ t → t ≡ false
-    go true h = absurd (false≢true (sym e ∙ at-all m p (λ k c. all-at n p h k (omega arith))))
-    go false h = refl
-
 -- ---- one turn of a loop over the places
 
 pub all-none : (p : ℕ → Bool) → true ≡ allTo 0 p

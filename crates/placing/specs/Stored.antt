@@ -8,9 +8,7 @@ use native.Mathlib.Omega.{arith}
 use native.Mathlib.Decide.{ℕ-discrete}
 use Rattle.table.specs.Record.{Record, Used}
 use Rattle.table.specs.Table.{at}
-use Rattle.survey.specs.Survey.{usedIn}
 use Rattle.places.specs.Cases.{either}
-use Rattle.survey.specs.Laws.{usedIn-seen}
 use Rattle.newcomer.specs.Newcomer.{Newcomer, brought, brought-is, brought-card}
 use Rattle.placing.specs.Place.Settled.{Ready, Settled, settled-new-used}
 
@@ -25,27 +23,6 @@ abbrev pub Stored : ℕ → (ℕ → Record) → Newcomer → Type 0
 Stored n R x = (s : ℕ) × StoredAt n R x s
 
 -- ---- in any table
-
--- in a free table nothing is stored
-pub stored-none : (n : ℕ) (R : ℕ → Record) → usedIn n R ≡ 0 → (x : Newcomer) → Stored n R x → ⊥
-stored-none n R none x z = omega (arith, usedIn-seen n R (z .0) (z .1 .within) (z .1 .used))
-
--- where cards are distinct, a card is stored with one kind and one signature
-pub stored-once :
-    (n : ℕ) (R : ℕ → Record)
-    → ((a b : ℕ) → a < n → b < n → Used (R a) → Used (R b) → R a .card ≡ R b .card → a ≡ b)
-    → (x y : Newcomer)
-    → Stored n R x
-    → Stored n R y
-    → x .card ≡ y .card
-    → x ≡ y
-stored-once n R cards x y p q e =
-    let a = p .0 in
-    let b = q .0 in
-    let one : a ≡ b =
-    cards a b (p .1 .within) (q .1 .within) (p .1 .used) (q .1 .used)
-    (brought-card (R a) x (p .1 .same) ∙ e ∙ sym (brought-card (R b) y (q .1 .same))) in
-    sym (p .1 .same) ∙ ap (λ (i : ℕ). brought (R i)) one ∙ q .1 .same
 
 -- ---- after a change to slot s alone
 

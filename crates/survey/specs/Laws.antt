@@ -5,13 +5,13 @@ use mathlib.Core.Bool.{Bool, true, false, _&&_, not, false≢true}
 use native.Mathlib.Omega.{arith}
 use native.Mathlib.Decide.{ℕ-discrete}
 use lib.Dec.{eqb}
-use borrow.Author.Tests.{leb-true, leb-false, le-leb, lt-leb, eqb-true, eqb-false, eq-eqb, ne-eqb, not-true, not-false}
+use borrow.Author.Tests.{leb-true, leb-false, le-leb, eqb-true, eqb-false, eq-eqb, ne-eqb, not-true, not-false}
 use Rattle.places.specs.Choice.{pick, and-left, and-right, and-both}
 use Rattle.places.specs.Count.{some-counted, seen-counted}
 use Rattle.places.specs.Test.{count-most}
 use Rattle.places.specs.Cases.{below-or, equal-or}
 use Rattle.table.specs.Record.{Record, Used, used, noSlot}
-use Rattle.survey.specs.Survey.{firstFrom, usedIn, slotOfCard, lowestFree, rootOf, kindOf, largestTimestamp}
+use Rattle.survey.specs.Survey.{firstFrom, usedIn, slotOfCard, lowestFree, rootOf, largestTimestamp}
 use Rattle.survey.specs.First.{first-from, first-is}
 
 -- no slot before a has the card
@@ -55,15 +55,6 @@ module _ (n : ℕ) (R : ℕ → Record) where
   unfolding slotOfCard
   no-card-before card s h =
       eqb-false (R s .card) card (first-from (λ a. eqb (R a .card) card) 0 n .before s (omega arith) h)
-
-  -- so it is found if it is there
-  pub card-found : (card s : ℕ) → s < n → R s .card ≡ card → slotOfCard n R card < n
-  card-found card s h e =
-      below-or
-      (slotOfCard n R card)
-      n
-      (λ b. b)
-      (λ b. absurd (no-card-before card s (omega (arith, slot-at-most card)) e))
 
   -- a slot that has it, with none before it, is the one
   pub card-here : (card s : ℕ) → s < n → R s .card ≡ card → NoCard R card s → s ≡ slotOfCard n R card
@@ -146,26 +137,6 @@ module _ (n : ℕ) (R : ℕ → Record) where
       false≢true
       (sym (first-from isRoot 0 n .before s (omega arith) h)
       ∙ and-both (used (R s)) (eqb (R s .parent) noSlot) (le-leb 1 (R s .card) u) (eq-eqb (R s .parent) noSlot e))
-
-  -- ---- the kind
-
-  -- the kind is that of the first used slot
-  pub kind-of-first : (s : ℕ) → s < n → Used (R s) → ((a : ℕ) → a < s → R a .card ≡ 0) → kindOf n R ≡ R s .kind
-  unfolding kindOf
-  kind-of-first s h u none =
-      ap
-      (λ (a : ℕ). R a .kind)
-      (first-is
-      (λ a. used (R a))
-      0
-      n
-      s
-      (record {
-        from = omega arith;
-        to = omega arith;
-        passes = λ b. le-leb 1 (R s .card) u;
-        before = λ j b q. lt-leb 1 (R j .card) (omega (arith, none j q));
-      }))
 
 -- ---- the largest timestamp
 

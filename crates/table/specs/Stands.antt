@@ -44,10 +44,6 @@ pub stands-below : (l : List ℕ) (n s : ℕ) → StandTo l n → s < n → Stan
 unfolding StandTo Stands
 stands-below l n s h b = omega arith
 
-pub stand-to-less : (l : List ℕ) (n k : ℕ) → StandTo l n → k ≤ n → StandTo l k
-unfolding StandTo
-stand-to-less l n k h b = omega arith
-
 -- a slot stands exactly if it is one of the table's
 pub stands-in : (l : List ℕ) (s : ℕ) → s < recordsIn l → Stands l s
 unfolding Stands
@@ -57,14 +53,10 @@ pub in-stands : (l : List ℕ) (s : ℕ) → Stands l s → s < recordsIn l
 unfolding Stands
 in-stands l s h = omega arith
 
--- all slots of a table stand in it, and no more
+-- all slots of a table stand in it
 pub stand-all : (l : List ℕ) → StandTo l (recordsIn l)
 unfolding StandTo
 stand-all l = omega arith
-
-pub stand-most : (l : List ℕ) (n : ℕ) → StandTo l n → n ≤ recordsIn l
-unfolding StandTo
-stand-most l n h = omega arith
 
 -- ---- bytes that are whole records
 
@@ -84,14 +76,10 @@ pub are-stand : (l : List ℕ) (n : ℕ) → AreRecords l n → StandTo l n
 unfolding AreRecords StandTo
 are-stand l n e = omega arith
 
--- a slot stands in n records exactly if it is one of them
+-- each of n records stands in them
 pub are-stands : (l : List ℕ) (n s : ℕ) → AreRecords l n → s < n → Stands l s
 unfolding AreRecords Stands
 are-stands l n s e b = omega arith
-
-pub stands-are : (l : List ℕ) (n s : ℕ) → AreRecords l n → Stands l s → s < n
-unfolding AreRecords Stands
-stands-are l n s e h = omega arith
 
 -- as many records, as many bytes
 pub are-long : (l m : List ℕ) (n : ℕ) → AreRecords l n → AreRecords m n → length l ≡ length m
@@ -115,18 +103,17 @@ are-free l n e = ap (λ (k : ℕ). replicate k 0) e
 -- ---- the right size
 
 -- a length of the right size, in numbers
-right-parts : (n : ℕ) → rightSize n ≡ true → (n % recordLength ≡ 0) × (n ≤ largestTable) × (recordLength ≤ n)
+right-parts : (n : ℕ) → rightSize n ≡ true → (n % recordLength ≡ 0) × (n ≤ largestTable)
 unfolding rightSize
 right-parts n e =
     let between = and-left (leb recordLength n && leb n largestTable) (eqb (n % recordLength) 0) e in
     let rest = and-right (leb recordLength n && leb n largestTable) (eqb (n % recordLength) 0) e in (
       eqb-true (n % recordLength) 0 rest,
       leb-true n largestTable (and-right (leb recordLength n) (leb n largestTable) between),
-      leb-true recordLength n (and-left (leb recordLength n) (leb n largestTable) between),
     )
 
 module _ (l : List ℕ) (right : rightSize (length l) ≡ true) where
-  -- a table of the right size is whole records, 1 to 1,024 of them
+  -- a table of the right size is whole records, 1,024 of them at most
   pub right-whole : WholeRecords l
   unfolding WholeRecords
   right-whole = right-parts (length l) right .0
@@ -136,9 +123,6 @@ module _ (l : List ℕ) (right : rightSize (length l) ≡ true) where
 
   pub right-most : recordsIn l ≤ mostRecords
   right-most = omega (arith, right-parts (length l) right .1)
-
-  pub right-some : 1 ≤ recordsIn l
-  right-some = omega (arith, right-parts (length l) right .2)
 
 -- and so many records are of the right size
 pub are-right : (l : List ℕ) (n : ℕ) → AreRecords l n → 1 ≤ n → n ≤ mostRecords → rightSize (length l) ≡ true
