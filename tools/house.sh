@@ -1,9 +1,9 @@
 #!/usr/bin/env bash
 # Counts what the house does not want, and fails where a count is above what tools/limits.txt allows: the record's
-# length written out of its place, a shut name opened, long paths in proofs, wide lines, files without a head. It also
-# sees that every must-fail edit which docs/PROMISES.md names is there, that no crate with a public function is without
-# one, and that crates.txt lists for a crate just what its files name. Long bodies and long files are only told. It
-# takes seconds and proves nothing.
+# length written out of its place, a shut name opened, long paths in proofs, wide lines, files without a head, a name
+# that docs/PROMISES.md looks for in a wrong file. It also sees that every must-fail edit which docs/PROMISES.md names
+# is there, that no crate with a public function is without one, and that crates.txt lists for a crate just what its
+# files name. Long bodies and long files are only told. It takes seconds and proves nothing.
 set -u
 cd "$(dirname "$0")/.."
 export LC_ALL=C.UTF-8 # a character is a character, not a byte
@@ -131,6 +131,19 @@ edits_named() {
     fi
 }
 
+# Names that docs/PROMISES.md says stand in a file, as `a`, `b` (crate/File), and that do not.
+lost_names() {
+    perl -0777 -ne '
+        while (/((?:`[^`]+`, )*`[^`]+`) \(([a-z]+)\/([A-Z][A-Za-z\/]*)\)/g) {
+            my ($names, $file) = ($1, "crates/$2/specs/$3.antt");
+            my $text = "";
+            if (open my $f, "<", $file) { local $/; $text = <$f> } else { print "$file is not there\n" }
+            for ($names =~ /`([A-Za-z][\w-]*)`/g) {
+                print "$_ is not in $file\n" unless $text =~ /(?<![\w-])\Q$_\E(?![\w-])/;
+            }
+        }' docs/PROMISES.md
+}
+
 edits_everywhere() {
     local crate name lost=''
     for crate in crates/*/; do
@@ -172,6 +185,7 @@ count opened "places outside table that unfold one of its shut names" opened
 count long-paths "paths of more than four .before in a proof" long_paths
 count wide-lines "lines of more than 120 characters" wide_lines
 count no-head "files without a head comment" no_head
+count lost-names "names that docs/PROMISES.md looks for in a wrong file" lost_names
 told "bodies of more than $long_body lines" long_bodies
 told "definitions and proofs of more than $long_body lines" long_definitions
 told "files of more than $long_file lines" long_files

@@ -65,6 +65,26 @@ static void listing(void)
     line(plotvuga_check(table, sizeof table), 0, 0);
 }
 
+/* Refusals 7 and 8, in tables of one record and of two. */
+static void small_tables(void)
+{
+    uint32_t count, refusal;
+
+    /* 7 FULL: a second card in a table of one record. */
+    static uint8_t one[PLOTVUGA_RECORD];
+    refusal = plotvuga_insert(one, sizeof one, 11, PLOTVUGA_FAULTS, 1, reading(1), PLOTVUGA_SIGNATURE, &count);
+    line(refusal, count, 0);
+    refusal = plotvuga_insert(one, sizeof one, 12, PLOTVUGA_FAULTS, 1, reading(1), PLOTVUGA_SIGNATURE, &count);
+    line(refusal, count, 0);
+
+    /* 8 CLOCK: the youngest record has the last timestamp. */
+    memset(one + 4, 255, 4);
+    static uint8_t two[2 * PLOTVUGA_RECORD];
+    memcpy(two, one, sizeof one);
+    refusal = plotvuga_insert(two, sizeof two, 12, PLOTVUGA_FAULTS, 1, reading(1), PLOTVUGA_SIGNATURE, &count);
+    line(refusal, count, 0);
+}
+
 /* Each refusal by its number, 1 to 10. Counts are lent full of ones, and a refusal sets them to 0. */
 static void refusals(void)
 {
@@ -96,19 +116,7 @@ static void refusals(void)
     insert(11, 1, 2);
     delete(12);
 
-    /* 7 FULL: a second card in a table of one record. */
-    static uint8_t one[PLOTVUGA_RECORD];
-    refusal = plotvuga_insert(one, sizeof one, 11, PLOTVUGA_FAULTS, 1, reading(1), PLOTVUGA_SIGNATURE, &count);
-    line(refusal, count, 0);
-    refusal = plotvuga_insert(one, sizeof one, 12, PLOTVUGA_FAULTS, 1, reading(1), PLOTVUGA_SIGNATURE, &count);
-    line(refusal, count, 0);
-
-    /* 8 CLOCK: the youngest record has the last timestamp. */
-    memset(one + 4, 255, 4);
-    static uint8_t two[2 * PLOTVUGA_RECORD];
-    memcpy(two, one, sizeof one);
-    refusal = plotvuga_insert(two, sizeof two, 12, PLOTVUGA_FAULTS, 1, reading(1), PLOTVUGA_SIGNATURE, &count);
-    line(refusal, count, 0);
+    small_tables();
 
     /* 9 SHORT: five cards are stored. */
     search(48, 5, 4);
