@@ -3,12 +3,12 @@ use Prim.Native.Nat.{ℕ, _≤_}
 use mathlib.Core.Path.{_≡_}
 use mathlib.Core.Bool.{Bool, true, false, _&&_, not}
 use mathlib.Core.List.{List}
-use lib.Dec.{ltb, eqb}
+use lib.Dec.{leb, ltb, eqb}
 use lib.ListN.{length}
 use borrow.Author.Tests.{eqb-true, not-false, lt-ltb}
 use Rattle.places.specs.Choice.{and-right}
 use Rattle.distance.specs.Kind.{knownKind}
-use Rattle.refusals.specs.Limits.{signatureLength}
+use Rattle.refusals.specs.Limits.{signatureLength, knownArity}
 use Rattle.table.specs.Record.{Record}
 use Rattle.survey.specs.declared.Findings.{Findings}
 use Rattle.survey.specs.Survey.{usedIn, kindOf}
@@ -17,6 +17,10 @@ use Rattle.survey.specs.Answers.{Answers}
 -- "3, ARGUMENT: .. kind not 1 or 2, or signature not 32 bytes": the kind and the signature's bytes s are none of these
 abbrev pub knownQuery : ℕ → List ℕ → Bool
 knownQuery kind s = knownKind kind && eqb (length s) signatureLength
+
+-- "3, ARGUMENT: card 0; arity not 1 to 8", of a call that changes the table
+abbrev pub knownChange : ℕ → ℕ → Bool
+knownChange card arity = leb 1 card && knownArity arity
 
 -- "4, KIND: used table of the other kind"
 unfoldable pub otherKind : ℕ → (ℕ → Record) → ℕ → Bool

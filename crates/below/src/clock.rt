@@ -1,6 +1,6 @@
 // The largest timestamp among the records that stay.
 ghost use mathlib.Core.Path.{_≡_};
-ghost use Prim.Native.Nat.{ℕ, _≤_, _<_, max};
+ghost use Prim.Native.Nat.{ℕ, _≤_, _<_};
 ghost use lib.ListN.{length, getD};
 ghost use Rattle.refusals.specs.Limits.{mostRecords};
 ghost use Rattle.table.specs.Record.{recordOf};
@@ -22,12 +22,6 @@ fn mark(keys: &[u64], marks: &mut [u8])
         marks[s] = 1;
         i += 1;
     }
-}
-
-fn larger(a: u32, b: u32) -> u32
-    ensures { λ r. ⌜ r ≡ max a b ⌝ }
-{
-    if a < b { b } else { a }
 }
 
 // The timestamp of the record in slot s, or 0 if the slot is marked or free.
@@ -53,7 +47,7 @@ fn largest_staying(t: &[u8], marks: &[u8], n: usize) -> u32
     let mut largest: u32 = 0;
     let mut s: usize = 0;
     while s < n {
-        largest = larger(staying_timestamp(t, marks, s), largest);
+        largest = survey::larger(staying_timestamp(t, marks, s), largest);
         s += 1;
     }
     largest

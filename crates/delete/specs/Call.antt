@@ -2,13 +2,14 @@
 -- means that there is no refusal. By the algebra of tests in their order. Assumes nothing.
 use Prim.Native.Nat.{ℕ, _≤_, _<_}
 use mathlib.Core.Path.{_≡_, refl, sym, ap, subst, _∙_}
-use mathlib.Core.Bool.{Bool, true, false, _&&_, _||_, not, false≢true}
+use mathlib.Core.Bool.{Bool, true, false, _||_, not, false≢true}
 use mathlib.Core.List.{List, [], _∷_, _++_}
 use native.Mathlib.Omega.{arith}
 use lib.Dec.{eqb, leb}
 use lib.ListN.{length}
 use borrow.Author.Tests.{eq-eqb, ne-eqb, le-leb, lt-leb, leb-true, leb-false, not-false}
 use Rattle.places.specs.Choice.{pick, and-left, and-right}
+use Rattle.admission.specs.Query.{knownChange}
 use Rattle.refusals.specs.Limits.{mostChildren, knownArity}
 use Rattle.refusals.specs.Refusal.{ARGUMENT, ABSENT, CLOCK, firstOf, done}
 use Rattle.refusals.specs.First.{anyHolds, first-append, first-none, first-given, first-done}
@@ -45,7 +46,7 @@ outcomeAt l v arity =
 
 -- ---- the arguments
 
-module _ (card arity : ℕ) (right : leb 1 card && knownArity arity ≡ true) where
+module _ (card arity : ℕ) (right : knownChange card arity ≡ true) where
   pub right-card : 1 ≤ card
   right-card = leb-true 1 card (and-left (leb 1 card) (knownArity arity) right)
 
@@ -64,7 +65,7 @@ module _ (l : List ℕ) (card arity : ℕ) where
   v = slotOfCard (recordsIn l) (recordOf l) card
 
   abbrev wrong : Bool
-  wrong = not (leb 1 card && knownArity arity)
+  wrong = not (knownChange card arity)
 
   abbrev clock : Bool
   clock = clockWouldPass (recordsOf l) v
@@ -105,13 +106,13 @@ module _ (l : List ℕ) (card arity : ℕ) where
         (eq-eqb (firstOf (admissionTests l)) done admitted)
 
     -- by the arguments
-    pub argument-refused : leb 1 card && knownArity arity ≡ false → refusedBy ARGUMENT l ≡ deleteOf l card arity
+    pub argument-refused : knownChange card arity ≡ false → refusedBy ARGUMENT l ≡ deleteOf l card arity
     argument-refused e =
         refusal-given ARGUMENT
         (own ∙ first-given [] wrong ARGUMENT ((leb n v, ABSENT) ∷ (clock, CLOCK) ∷ []) refl (ap not e))
         (λ z. omega (arith, z))
 
-    module _ (right : leb 1 card && knownArity arity ≡ true) where
+    module _ (right : knownChange card arity ≡ true) where
       -- "card not stored"
       pub absent-refused : recordsIn l ≤ slotOfCard (recordsIn l) (recordOf l) card
           → refusedBy ABSENT l ≡ deleteOf l card arity
@@ -138,7 +139,7 @@ module _ (l : List ℕ) (card arity : ℕ) where
 
   pub present-held :
       Readable l
-      → leb 1 card && knownArity arity ≡ true
+      → knownChange card arity ≡ true
       → slotOfCard (recordsIn l) (recordOf l) card < recordsIn l
       → Held (recordsOf l) (slotOfCard (recordsIn l) (recordOf l) card)
   present-held ok right h =
@@ -171,7 +172,7 @@ module _ (l : List ℕ) (card arity : ℕ) (none : refusalOf l card arity ≡ do
   v′ = slotOfCard (recordsIn l) (recordOf l) card
 
   abbrev right′ : Bool
-  right′ = leb 1 card && knownArity arity
+  right′ = knownChange card arity
 
   none-holds : anyHolds (admissionTests l ++ deletionTests l card arity) ≡ false
   unfolding refusalOf

@@ -1,13 +1,14 @@
 -- "Delete": the outcome of the call, for every input. A record and every record below it leave; those that stood below
 -- go back one at a time by the insert rule, oldest first.
 use Prim.Native.Nat.{ℕ, _+_}
-use mathlib.Core.Bool.{Bool, _&&_, not}
+use mathlib.Core.Bool.{Bool, not}
 use mathlib.Core.List.{List, [], _∷_, _++_}
 use lib.Dec.{eqb, leb, ltb}
 use lib.ListN.{length, drop}
 use Rattle.places.specs.Choice.{pick}
 use Rattle.distance.specs.Kind.{apart}
-use Rattle.refusals.specs.Limits.{knownArity, lastTimestamp}
+use Rattle.admission.specs.Query.{knownChange}
+use Rattle.refusals.specs.Limits.{lastTimestamp}
 use Rattle.refusals.specs.Refusal.{ARGUMENT, ABSENT, CLOCK, Test, firstOf, done}
 use Rattle.refusals.specs.Outcome.{Outcome, refused}
 use Rattle.table.specs.Record.{Record, recordOf}
@@ -44,7 +45,7 @@ clockWouldPass rows v =
 -- "3, ARGUMENT: card 0; arity not 1 to 8; 6, ABSENT: card not stored; 8, CLOCK: a fresh timestamp would pass" the last
 abbrev pub deletionTests : List ℕ → ℕ → ℕ → List Test
 deletionTests l card arity =
-    (not (leb 1 card && knownArity arity), ARGUMENT)
+    (not (knownChange card arity), ARGUMENT)
     ∷ (leb (recordsIn l) (slotOfCard (recordsIn l) (recordOf l) card), ABSENT)
     ∷ (clockWouldPass (recordsOf l) (slotOfCard (recordsIn l) (recordOf l) card), CLOCK)
     ∷ []

@@ -4,16 +4,17 @@
 -- Assumes nothing.
 use Prim.Native.Nat.{ℕ, suc, _+_, _-_, _≤_, _<_}
 use mathlib.Core.Path.{_≡_, sym, ap, subst, _∙_}
-use mathlib.Core.Bool.{true, false, _&&_}
+use mathlib.Core.Bool.{true, false}
 use mathlib.Core.List.{List, map}
 use native.Mathlib.Omega.{arith}
-use lib.Dec.{leb, ltb}
+use lib.Dec.{ltb}
 use lib.ListN.{length, getD, set, take, drop, length-take, length-drop}
 use lib.Seq.{take-all}
 use borrow.Author.Tests.{lt-ltb, le-ltb}
 use Rattle.number.specs.Frame.{Bytes}
 use Rattle.order.specs.Order.{inOrder}
-use Rattle.refusals.specs.Limits.{mostRecords, mostChildren, lastTimestamp, knownArity}
+use Rattle.admission.specs.Query.{knownChange}
+use Rattle.refusals.specs.Limits.{mostRecords, mostChildren, lastTimestamp}
 use Rattle.refusals.specs.Refusal.{CLOCK, done}
 use Rattle.refusals.specs.Outcome.{Outcome, refused}
 use Rattle.table.specs.Record.{Record, recordOf, free, children, largestTable}
@@ -86,7 +87,7 @@ pub present-deletable :
     (l : List ℕ) (card arity : ℕ) (r : Admitted)
     → Admits l r
     → r .refusal ≡ done
-    → leb 1 card && knownArity arity ≡ true
+    → knownChange card arity ≡ true
     → (v : ℕ)
     → v ≡ slotOfCard (recordsIn l) (recordOf l) card
     → v < recordsIn l

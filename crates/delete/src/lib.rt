@@ -1,11 +1,9 @@
 // Delete: a card's record leaves with all below it, and those below go back by the insert rule. All tests come before
 // any write.
 ghost use mathlib.Core.Path.{_≡_};
-ghost use mathlib.Core.Bool.{_&&_};
 ghost use Prim.Native.Nat.{_+_, _≤_};
-ghost use lib.Dec.{leb};
 ghost use lib.ListN.{length};
-ghost use Rattle.refusals.specs.Limits.{mostChildren, lastTimestamp, knownArity};
+ghost use Rattle.refusals.specs.Limits.{mostChildren, lastTimestamp};
 ghost use Rattle.refusals.specs.Outcome.{Outcome};
 ghost use Rattle.table.specs.Table.{recordsOf};
 ghost use Rattle.placing.specs.Hangable.{leaves};
@@ -19,7 +17,6 @@ use refusals::ARGUMENT;
 use refusals::CLOCK;
 use refusals::Changed;
 use refusals::DONE;
-use refusals::limit::CHILDREN;
 use refusals::limit::RECORDS;
 use refusals::limit::TIMESTAMP;
 use refusals::refused;
@@ -66,12 +63,6 @@ fn delete_at(t: &mut [u8], v: usize, found: Findings, arity: u8) -> Changed
     }
 }
 
-fn right_arguments(card: u32, arity: u8) -> bool
-    ensures { λ r. ⌜ r ≡ leb 1 card && knownArity arity ⌝ }
-{
-    (1 <= card) & ((1 <= arity) & (arity <= CHILDREN))
-}
-
 // Deletes the card. A refused call leaves the table as it was.
 pub fn delete(t: &mut [u8], card: u32, arity: u8) -> Changed
     ensures { λ r. ⌜ _≡_ {A = Outcome} (record { refusal = r .refusal; count = r .count; table = now (t .exit) })
@@ -81,7 +72,7 @@ pub fn delete(t: &mut [u8], card: u32, arity: u8) -> Changed
     if admitted.refusal != DONE {
         return refused(admitted.refusal);
     }
-    if !right_arguments(card, arity) {
+    if !admission::query::known_change(card, arity) {
         return refused(ARGUMENT);
     }
     let n = t.len() / RECORD;

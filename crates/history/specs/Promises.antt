@@ -8,13 +8,13 @@ use mathlib.Core.List.{List, [], _∷_}
 use lib.Dec.{leb, ltb, eqb}
 use lib.ListN.{length}
 use Rattle.table.specs.Record.{recordOf}
-use Rattle.refusals.specs.Limits.{mostRecords, knownArity, lastTimestamp, signatureLength}
+use Rattle.refusals.specs.Limits.{mostRecords, lastTimestamp, signatureLength}
 use Rattle.table.specs.Table.{rightSize, recordsIn, recordsOf}
 use Rattle.writing.specs.Clear.{Cleared, clearOf}
 use Rattle.judge.specs.WellFormed.{wellFormed}
 use Rattle.survey.specs.Survey.{usedIn, slotOfCard, lowestFree, largestTimestamp}
 use Rattle.refusals.specs.Refusal.{SIZE, TABLE, ARGUMENT, KIND, TWICE, ABSENT, FULL, CLOCK, SHORT, LOOSE, firstOf, done}
-use Rattle.admission.specs.Query.{otherKind}
+use Rattle.admission.specs.Query.{otherKind, knownChange}
 use Rattle.distance.specs.Kind.{knownKind}
 use Rattle.insert.specs.Insert.{insertOf, rightArguments}
 use Rattle.refusals.specs.Outcome.{Outcome}
@@ -45,7 +45,7 @@ module _ (l : List ℕ) where
       → Refuses
       ((not (rightSize (length l)), SIZE)
       ∷ (not (wellFormed (recordsIn l) (recordOf l)), TABLE)
-      ∷ (not ((leb 1 card && knownArity arity) && (knownKind kind && eqb (length signature) signatureLength)), ARGUMENT)
+      ∷ (not (knownChange card arity && (knownKind kind && eqb (length signature) signatureLength)), ARGUMENT)
       ∷ (otherKind (recordsIn l) (recordOf l) kind, KIND)
       ∷ (ltb (slotOfCard (recordsIn l) (recordOf l) card) (recordsIn l), TWICE)
       ∷ (leb (recordsIn l) (lowestFree (recordsIn l) (recordOf l)), FULL)
@@ -65,7 +65,7 @@ module _ (l : List ℕ) where
       → Refuses
       ((not (rightSize (length l)), SIZE)
       ∷ (not (wellFormed (recordsIn l) (recordOf l)), TABLE)
-      ∷ (not (leb 1 card && knownArity arity), ARGUMENT)
+      ∷ (not (knownChange card arity), ARGUMENT)
       ∷ (leb (recordsIn l) (slotOfCard (recordsIn l) (recordOf l) card), ABSENT)
       ∷ (clockWouldPass (recordsOf l) (slotOfCard (recordsIn l) (recordOf l) card), CLOCK)
       ∷ [])

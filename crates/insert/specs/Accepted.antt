@@ -19,7 +19,7 @@ use Rattle.table.specs.Stands.{right-most}
 use Rattle.judge.specs.WellFormed.{WellFormed}
 use Rattle.survey.specs.Survey.{usedIn, kindOf, slotOfCard, lowestFree, largestTimestamp}
 use Rattle.survey.specs.Laws.{no-card-before, lowest-no-card, usedIn-seen}
-use Rattle.admission.specs.Query.{otherKind}
+use Rattle.admission.specs.Query.{otherKind, knownChange}
 use Rattle.distance.specs.Kind.{knownKind}
 use Rattle.refusals.specs.Limits.{knownArity, mostChildren, lastTimestamp, signatureLength}
 use Rattle.refusals.specs.Refusal.{firstOf, done}
@@ -87,14 +87,14 @@ module _ (l : List ℕ) (card kind arity : ℕ) (s : List ℕ) (none : refusalOf
   arguments : rightArguments card kind arity s ≡ true
   arguments = not-false (rightArguments card kind arity s) (passed .0)
 
-  card-arity : leb 1 card && knownArity arity ≡ true
+  card-arity : knownChange card arity ≡ true
   unfolding rightArguments
-  card-arity = and-left (leb 1 card && knownArity arity) (knownKind kind && eqb (length s) signatureLength) arguments
+  card-arity = and-left (knownChange card arity) (knownKind kind && eqb (length s) signatureLength) arguments
 
   kind-signature : knownKind kind && eqb (length s) signatureLength ≡ true
   unfolding rightArguments
   kind-signature =
-      and-right (leb 1 card && knownArity arity) (knownKind kind && eqb (length s) signatureLength) arguments
+      and-right (knownChange card arity) (knownKind kind && eqb (length s) signatureLength) arguments
 
   card-some : 1 ≤ card
   card-some = leb-true 1 card (and-left (leb 1 card) (knownArity arity) card-arity)

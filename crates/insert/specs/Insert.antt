@@ -12,8 +12,8 @@ use Rattle.table.specs.Table.{rightSize, recordsIn, recordsOf}
 use Rattle.judge.specs.WellFormed.{wellFormed}
 use Rattle.survey.specs.Survey.{slotOfCard, lowestFree, largestTimestamp}
 use Rattle.refusals.specs.Refusal.{SIZE, TABLE, ARGUMENT, KIND, TWICE, FULL, CLOCK, done, firstOf}
-use Rattle.admission.specs.Query.{knownQuery, otherKind}
-use Rattle.refusals.specs.Limits.{lastTimestamp, knownArity}
+use Rattle.admission.specs.Query.{knownQuery, otherKind, knownChange}
+use Rattle.refusals.specs.Limits.{lastTimestamp}
 use Rattle.refusals.specs.Outcome.{Outcome, refused}
 use Rattle.placing.specs.Place.{Placed, placed}
 use Rattle.placing.specs.Changed.{changed}
@@ -21,7 +21,7 @@ use Rattle.placing.specs.Changed.{changed}
 -- "card 0; arity not 1 to 8; kind not 1 or 2, or signature not 32 bytes" is refused
 unfoldable pub rightArguments : ℕ → ℕ → ℕ → List ℕ → Bool
 rightArguments card kind arity s =
-    (leb 1 card && knownArity arity) && knownQuery kind s
+    knownChange card arity && knownQuery kind s
 
 -- the refusal, 0 if there is none
 unfoldable pub refusalOf : List ℕ → ℕ → ℕ → ℕ → List ℕ → ℕ

@@ -16,7 +16,6 @@ use refusals::DONE;
 use refusals::FULL;
 use refusals::KIND;
 use refusals::TWICE;
-use refusals::limit::CHILDREN;
 use refusals::limit::TIMESTAMP;
 use refusals::refused;
 use survey::Findings;
@@ -25,8 +24,7 @@ use table::RECORD;
 fn right_arguments(card: u32, kind: u8, arity: u8, signature: &[u8]) -> bool
     ensures { λ r. ⌜ r ≡ rightArguments card kind arity (now (signature .entry)) ⌝ }
 {
-    let card_and_arity = (1 <= card) & ((1 <= arity) & (arity <= CHILDREN));
-    card_and_arity & admission::query::known_query(kind, signature)
+    admission::query::known_change(card, arity) & admission::query::known_query(kind, signature)
 }
 
 // The refusals by what the table of n records holds, where the card stands in `slot`; 0 if there is none.

@@ -1,7 +1,7 @@
 // One pass over the records: what it asks of each, and the numbers that it brings back.
 ghost use mathlib.Core.Path.{_≡_};
 ghost use mathlib.Core.Bool.{_&&_};
-ghost use Prim.Native.Nat.{_+_, _*_, _≤_, _<_, min, max};
+ghost use Prim.Native.Nat.{_+_, _*_, _≤_, _<_, min};
 ghost use Rattle.refusals.specs.Limits.{mostRecords, mostChildren};
 ghost use Rattle.table.specs.Record.{recordOf};
 ghost use Rattle.table.specs.Stands.{Stands, StandTo};
@@ -126,12 +126,6 @@ fn earlier(a: usize, b: usize) -> usize
     if a < b { a } else { b }
 }
 
-fn larger(a: u32, b: u32) -> u32
-    ensures { λ r. ⌜ r ≡ max a b ⌝ }
-{
-    if a < b { b } else { a }
-}
-
 // What is told where the table cannot be well formed. All else stays as it was: numbers of their own would be made
 // ready before each test, for an end that hardly comes.
 fn misfit(seen: Seen) -> Seen
@@ -161,7 +155,7 @@ fn with_used(seen: Seen, kind: u8, count: u8, timestamp: u32, root: usize) -> Se
         children: seen.children + count as usize,
         rising: seen.rising & (seen.largest < timestamp),
         lowest: seen.lowest,
-        largest: larger(timestamp, seen.largest),
+        largest: survey::larger(timestamp, seen.largest),
         root,
     }
 }

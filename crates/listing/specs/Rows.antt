@@ -13,7 +13,7 @@ use Rattle.places.specs.Choice.{pick}
 use Rattle.distance.specs.Signature.{readingsAt}
 use Rattle.distance.specs.Kind.{apart, knownKind}
 use Rattle.table.specs.Record.{Record}
-use Rattle.refusals.specs.Limits.{mostRecords, knownArity, lastTimestamp, signatureLength}
+use Rattle.refusals.specs.Limits.{mostRecords, lastTimestamp, signatureLength}
 use Rattle.table.specs.Table.{rightSize, recordsOf, at}
 use Rattle.writing.specs.Put.{putRadius, withRadius}
 use Rattle.writing.specs.Laws.{put-radius}
@@ -23,7 +23,7 @@ use Rattle.table.specs.Size.{rows-are}
 use Rattle.judge.specs.WellFormed.{wellFormed}
 use Rattle.survey.specs.Survey.{usedIn, slotOfCard, lowestFree, largestTimestamp}
 use Rattle.refusals.specs.Refusal.{TABLE, ARGUMENT, KIND, TWICE, ABSENT, FULL, CLOCK, SHORT, LOOSE, firstOf, done}
-use Rattle.admission.specs.Query.{otherKind}
+use Rattle.admission.specs.Query.{otherKind, knownChange}
 use Rattle.placing.specs.Place.{Placed, placed}
 use Rattle.newcomer.specs.Newcomer.{Newcomer}
 use Rattle.insert.specs.Insert.{rightArguments}
@@ -83,7 +83,7 @@ module _ (rows : List Record) where
   unfoldable pub deleteRefusal : ℕ → ℕ → ℕ
   deleteRefusal card arity =
       firstOf
-      ((not (leb 1 card && knownArity arity), ARGUMENT)
+      ((not (knownChange card arity), ARGUMENT)
       ∷ (leb n (slotOfCard n (at rows) card), ABSENT)
       ∷ (clockWouldPass rows (slotOfCard n (at rows) card), CLOCK)
       ∷ [])

@@ -1,5 +1,6 @@
 // The small questions that the calls ask of a table.
 ghost use mathlib.Core.Path.{_≡_};
+ghost use Prim.Native.Nat.{max};
 ghost use Rattle.table.specs.Record.{recordOf};
 ghost use Rattle.table.specs.Stands.{StandTo};
 ghost use Rattle.survey.specs.Survey.{slotOfCard};
@@ -12,6 +13,13 @@ pub struct Findings {
     pub largest: u32,
     pub root: usize,
     pub kind: u8,
+}
+
+// The larger of two timestamps: what a pass keeps that asks for the largest.
+pub fn larger(a: u32, b: u32) -> u32
+    ensures { λ r. ⌜ r ≡ max a b ⌝ }
+{
+    if a < b { b } else { a }
 }
 
 // The first slot in which the card stands, or n. At each turn no slot before s has it.

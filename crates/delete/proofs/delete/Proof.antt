@@ -35,7 +35,7 @@ start c = c .before .before .before
 abbrev judged : tie.Else1 → tie.After-admit
 judged c = c .before .before
 
-abbrev passed : tie.After-right-arguments → tie.Else1
+abbrev passed : tie.After-known-change → tie.Else1
 passed c = c .before
 
 abbrev asked : tie.After-slot-of-card → tie.Else2
@@ -51,7 +51,7 @@ right : (c : tie.Else2) →
     let a = start (judged (passed (c .before))) .args in
     leb 1 (a .card) && knownArity (a .arity) ≡ true
 right c =
-    let r = c .before .right-arguments in
+    let r = c .before .known-change in
     sym (r .ensures) ∙ not-false (r .result) (c .if2 .left)
 
 -- ---- needs
@@ -73,8 +73,8 @@ returns c =
     ∙ admission-refused (a .t .now) (a .card) (a .arity) (m .admit .result .refusal) (m .admit .ensures .refusal-is)
     (c .before .if1 .taken)
 
-right-arguments-requires : tie.Need-right-arguments-requires
-right-arguments-requires c κs = search needs
+known-change-requires : tie.Need-known-change-requires
+known-change-requires c κs = search needs
 
 refused-requires-2 : tie.Need-refused-requires-2
 refused-requires-2 c κs = search needs
@@ -86,7 +86,7 @@ returns-2 : tie.Need-returns-2
 returns-2 c =
     let q = c .before .before in
     let a = start (judged (passed q)) .args in
-    let r = q .right-arguments in
+    let r = q .known-change in
     same-refusal (a .t .now) (c .refused2 .ensures .0) (c .refused2 .ensures .1)
     ∙ argument-refused (a .t .now) (a .card) (a .arity) (admitted (passed q))
     (sym (r .ensures) ∙ not-true (r .result) (c .before .if2 .taken))
@@ -152,7 +152,7 @@ delete-spec =
     refused-requires
     same-length
     returns
-    right-arguments-requires
+    known-change-requires
     refused-requires-2
     same-length-2
     returns-2
