@@ -1,6 +1,6 @@
 #!/usr/bin/env bash
 # Sees to what the repository needs: Rattle's kit (`rt`) and a Rust of 1.88 or newer, which must be there, and a C
-# compiler and bc, which are installed as Debian's packages where they are missing.
+# compiler, bc and perl, which are installed as Debian's packages where they are missing.
 set -u
 if ! command -v rt >/dev/null; then
     echo "rt, of Rattle's kit, is not on the PATH: nothing can be proved or built without it" >&2
@@ -12,6 +12,7 @@ if ! command -v cargo >/dev/null; then
 fi
 missing=''
 command -v bc >/dev/null || missing="$missing bc"
+command -v perl >/dev/null || missing="$missing perl"
 command -v gcc >/dev/null || missing="$missing gcc libc6-dev"
 if [ -n "$missing" ]; then
     # shellcheck disable=SC2086
