@@ -1,146 +1,88 @@
--- "oldest first by their old timestamps": slots in age order. A slot's key is its record's timestamp and then the slot,
--- so keys in rising order are slots in age order, and a key tells its slot. Assumes nothing.
-use Prim.Native.Nat.{ℕ, suc, _+_, _*_, _%_, _≤_, _<_}
-use mathlib.Core.Path.{_≡_, refl, sym, ap, _∙_}
-use mathlib.Core.Bool.{Bool, false, cond}
-use mathlib.Core.Logic.{_↔_}
-use mathlib.Core.List.{List, [], _∷_, map, List·Memᴰ·head as first}
+-- "oldest first by their old timestamps": slots in age order, and that their timestamps rise. Assumes nothing.
+use Prim.Native.Nat.{ℕ, _<_}
+use mathlib.Core.Path.{_≡_, refl}
+use mathlib.Core.Bool.{Bool, true, false, cond}
+use mathlib.Core.Logic.{_⊎_, inl, inr}
+use mathlib.Core.List.{List, [], _∷_, List·Memᴰ·head as first, List·Memᴰ·tail as later, List·Memᴰ·not-nil}
 use native.Mathlib.Omega.{arith}
-use native.Mathlib.Decide.{ℕ-discrete}
-use native.Mathlib.Numerals.{add-one}
+use native.Mathlib.Decide.{decLe}
 use lib.Dec.{ltb}
-use lib.ListN.{length, getD, drop, length-map, drop-of-length-le, List·getD-map}
-use lib.Seq.{drop-cons}
-use borrow.Author.Tests.{le-ltb}
-use Rattle.order.specs.Order.{inOrder, putAmong, times}
-use Rattle.order.specs.InOrder.{
-  times-nil,
-  times-same,
-  times-other,
-  times-rest,
-  times-of-member,
-  member-of-times,
-  inOrder-times,
-  inOrder-of-member,
-  member-of-inOrder,
-  inOrder-length,
-}
-use Rattle.table.specs.Record.{Record}
-use Rattle.table.specs.Table.{at}
-use Rattle.tree.specs.Slots.{_∈_, Distinct, image-from, image-to, distinct-image}
+use borrow.Author.Tests.{ltb-true, ltb-false}
+use Rattle.places.specs.Cases.{either}
+use Rattle.tree.specs.Slots.{_∈_, Distinct}
+use Rattle.tree.specs.View.{Rising}
 
--- ---- keys
+-- slot s put before the first of these that is not older
+unfoldable pub putByAge : (ℕ → ℕ) → ℕ → List ℕ → List ℕ
+putByAge timestamp s [] = s ∷ []
+putByAge timestamp s (a ∷ l) = cond (ltb (timestamp a) (timestamp s)) (a ∷ putByAge timestamp s l) (s ∷ a ∷ l)
 
--- in a key the timestamp counts in steps of this many, more than there are slots; the source's SLOTS
-abbrev pub slotSpan : ℕ
-slotSpan = 65536
+-- the slots ss, oldest first: the first is put among the others, oldest first
+unfoldable pub oldestFirst : (ℕ → ℕ) → List ℕ → List ℕ
+oldestFirst timestamp [] = []
+oldestFirst timestamp (s ∷ ss) = putByAge timestamp s (oldestFirst timestamp ss)
 
--- a slot's key: its record's age first
-abbrev pub keyOf : (ℕ → Record) → ℕ → ℕ
-keyOf R s = R s .timestamp * slotSpan + s
+-- ---- no other slots
 
-abbrev pub ageKey : List Record → ℕ → ℕ
-ageKey rows s = keyOf (at rows) s
+module _ (timestamp : ℕ → ℕ) where
+  putByAge-from : (s x : ℕ) (l : List ℕ) → x ∈ putByAge timestamp s l → (x ≡ s) ⊎ (x ∈ l)
+  unfolding putByAge
+  putByAge-from s x [] (first e) = inl e
+  putByAge-from s x [] (later i) = absurd (List·Memᴰ·not-nil i)
+  putByAge-from s x (a ∷ l) i = go (ltb (timestamp a) (timestamp s)) (putByAge-from s x l) i
+    where
+      go : (t : Bool) → (x ∈ putByAge timestamp s l → (x ≡ s) ⊎ (x ∈ l))
+          → x ∈ cond t (a ∷ putByAge timestamp s l) (s ∷ a ∷ l) → (x ≡ s) ⊎ (x ∈ (a ∷ l))
+      go true f (first e) = inr (first e)
+      go true f (later j) = either (f j) inl (λ k. inr (later k))
+      go false f (first e) = inl e
+      go false f (later j) = inr j
 
--- the slot in a key
-abbrev pub slotIn : ℕ → ℕ
-slotIn k = k % slotSpan
+  pub oldestFirst-from : (x : ℕ) (ss : List ℕ) → x ∈ oldestFirst timestamp ss → x ∈ ss
+  unfolding oldestFirst
+  oldestFirst-from x [] i = i
+  oldestFirst-from x (s ∷ ss) i =
+      either (putByAge-from s x (oldestFirst timestamp ss) i) first (λ j. later (oldestFirst-from x ss j))
 
--- the slots ss, oldest first
-abbrev pub byAge : List Record → List ℕ → List ℕ
-byAge rows ss = map slotIn (inOrder (map (ageKey rows) ss))
+  -- ---- timestamps that differ rise
 
--- ---- the slots in keys, one by one
+  -- no two of these slots have one timestamp
+  abbrev pub Ages : List ℕ → Type 0
+  Ages ss = (a b : ℕ) → a ∈ ss → b ∈ ss → timestamp a ≡ timestamp b → a ≡ b
 
--- those in the keys from the i-th on
-pub slots-next : (keys : List ℕ) (i : ℕ) → i < length keys
-    → drop i (map slotIn keys) ≡ slotIn (getD keys i 0) ∷ drop (i + 1) (map slotIn keys)
-slots-next keys i h =
-    drop-cons (map slotIn keys) i 0 (omega (arith, length-map keys slotIn))
-    ∙ ap (λ (s : ℕ). s ∷ drop (suc i) (map slotIn keys)) (List·getD-map slotIn keys i 0)
-    ∙ ap (λ (j : ℕ). slotIn (getD keys i 0) ∷ drop j (map slotIn keys)) (sym (add-one i))
+  -- the first of them has not the timestamp of another
+  pub ages-first : (s : ℕ) (ss : List ℕ) → Distinct (s ∷ ss) → Ages (s ∷ ss) → (a : ℕ) → a ∈ ss
+      → timestamp a ≡ timestamp s → ⊥
+  ages-first s ss once ages a i e = once .0 (rw (ages a s (later i) (first refl) e) at i)
 
-pub slots-end : (keys : List ℕ) (i : ℕ) → length keys ≤ i → drop i (map slotIn keys) ≡ []
-slots-end keys i h = drop-of-length-le (map slotIn keys) {i = i} (omega (arith, length-map keys slotIn))
+  putByAge-rising : (s : ℕ) (l : List ℕ) → Rising timestamp l → ((a : ℕ) → a ∈ l → timestamp a ≡ timestamp s → ⊥)
+      → Rising timestamp (putByAge timestamp s l)
+  unfolding putByAge
+  putByAge-rising s [] rising other = (λ c i. absurd (List·Memᴰ·not-nil i), tt)
+  putByAge-rising s (a ∷ l) rising other =
+      go (ltb (timestamp a) (timestamp s)) refl (putByAge-rising s l (rising .1) (λ b i. other b (later i)))
+    where
+      older : timestamp s < timestamp a → (c : ℕ) → c ∈ (a ∷ l) → timestamp s < timestamp c
+      older h c (first e) = rw e h
+      older h c (later j) = omega (arith, rising .0 c j)
 
--- ---- no key twice, by how often each stands
+      go : (t : Bool) → ltb (timestamp a) (timestamp s) ≡ t → Rising timestamp (putByAge timestamp s l)
+          → Rising timestamp (cond t (a ∷ putByAge timestamp s l) (s ∷ a ∷ l))
+      go true e rest = (
+        λ c i. either (putByAge-from s c l i) (λ q. rw q (ltb-true (timestamp a) (timestamp s) e)) (rising .0 c),
+        rest,
+      )
+      go false e rest =
+          let h : timestamp s < timestamp a = elim (decLe (timestamp a) (timestamp s)) [
+            | yes le ↦ absurd (other a (first refl) (omega (arith, ltb-false (timestamp a) (timestamp s) e)))
+            | no m ↦ omega arith
+          ] in
+          (older h, rising)
 
-once-times : (l : List ℕ) → Distinct l → (x : ℕ) → times x l ≤ 1
-once-times [] p x = omega (arith, times-nil x)
-once-times (a ∷ l) p x = elim (ℕ-discrete x a) [
-  | no ne ↦ omega (arith, times-other x a l ne, once-times l (p .1) x)
-  | yes e ↦ rw e (elim (ℕ-discrete (times a l) 0) [
-    | yes z ↦ omega (arith, times-same a l)
-    | no nz ↦ absurd (p .0 (member-of-times a l (omega arith)))
-  ])
-]
-
-times-once : (l : List ℕ) → ((x : ℕ) → times x l ≤ 1) → Distinct l
-times-once [] h = tt
-times-once (a ∷ l) h = (
-  λ i. omega (arith, h a, times-same a l, times-of-member i),
-  times-once l (λ x. omega (arith, h x, times-rest x a l)),
-)
-
-pub inOrder-distinct : (l : List ℕ) → Distinct l → Distinct (inOrder l)
-inOrder-distinct l p = times-once (inOrder l) (λ x. omega (arith, once-times l p x, inOrder-times x l))
-
--- ---- a key below all others stays first
-
-putAmong-first : (x : ℕ) (l : List ℕ) → ((y : ℕ) → y ∈ l → x ≤ y) → putAmong x l ≡ x ∷ l
-unfolding putAmong
-putAmong-first x [] h = refl
-putAmong-first x (y ∷ l) h =
-    let e : ltb y x ≡ false = le-ltb y x (h y (first refl)) in
-    ap (λ (t : Bool). cond t (y ∷ putAmong x l) (x ∷ y ∷ l)) e
-
-pub inOrder-first : (x : ℕ) (l : List ℕ) → ((y : ℕ) → y ∈ l → x ≤ y) → inOrder (x ∷ l) ≡ x ∷ inOrder l
-inOrder-first x l h =
-    unfold inOrder in putAmong-first x (inOrder l) (λ y i. h y (member-of-inOrder y l i))
-
--- ---- slots in age order are the same slots
-
-module _ (rows : List Record) (ss : List ℕ) (within : (s : ℕ) → s ∈ ss → s < slotSpan) where
-  -- a key tells its slot
-  pub key-slot : (s : ℕ) → s ∈ ss → slotIn (ageKey rows s) ≡ s
-  key-slot s i = omega (arith, within s i)
-
-  key-from : (k : ℕ) → k ∈ inOrder (map (ageKey rows) ss) → (s : ℕ) × s ∈ ss × (k ≡ ageKey rows s)
-  key-from k i = image-from (ageKey rows) k ss (member-of-inOrder k (map (ageKey rows) ss) i)
-
-  pub byAge-iff : (s : ℕ) → s ∈ byAge rows ss ↔ s ∈ ss
-  byAge-iff s = (
-    λ i.
-        let y = image-from slotIn s (inOrder (map (ageKey rows) ss)) i in
-        let z = key-from (y .0) (y .1) in
-        let e : s ≡ z .0 = y .2 ∙ ap slotIn (z .2) ∙ key-slot (z .0) (z .1) in
-        rw e (z .1),
-    λ i.
-        let k = image-to (ageKey rows) s ss i in
-        rw (key-slot s i) at (image-to slotIn (ageKey rows s) (inOrder (map (ageKey rows) ss)) (inOrder-of-member k)),
-  )
-
-  pub byAge-distinct : Distinct ss → Distinct (byAge rows ss)
-  byAge-distinct distinct =
-      distinct-image
-      slotIn
-      (inOrder (map (ageKey rows) ss))
-      (λ a b i j e.
-      let x = key-from a i in
-      let y = key-from b j in
-      let same : x .0 ≡ y .0 =
-      sym (key-slot (x .0) (x .1)) ∙ ap slotIn (sym (x .2)) ∙ e ∙ ap slotIn (y .2) ∙ key-slot (y .0) (y .1) in
-      x .2 ∙ ap (ageKey rows) same ∙ sym (y .2))
-      (inOrder-distinct
-      (map (ageKey rows) ss)
-      (distinct-image
-      (ageKey rows)
-      ss
-      (λ a b i j e. sym (key-slot a i) ∙ ap slotIn e ∙ key-slot b j)
-      distinct))
-
-pub byAge-length : (rows : List Record) (ss : List ℕ) → length (byAge rows ss) ≡ length ss
-byAge-length rows ss =
-    length-map (inOrder (map (ageKey rows) ss)) slotIn
-    ∙ inOrder-length (map (ageKey rows) ss)
-    ∙ length-map ss (ageKey rows)
+  pub oldestFirst-rising : (ss : List ℕ) → Distinct ss → Ages ss → Rising timestamp (oldestFirst timestamp ss)
+  unfolding oldestFirst
+  oldestFirst-rising [] once ages = tt
+  oldestFirst-rising (s ∷ ss) once ages =
+      putByAge-rising s (oldestFirst timestamp ss)
+      (oldestFirst-rising ss (once .1) (λ a b i j. ages a b (later i) (later j)))
+      (λ a i. ages-first s ss once ages a (oldestFirst-from a ss i))

@@ -1,2 +1,3 @@
--- Slots oldest first, by keys.
+-- Slots oldest first, in the paper's words and by keys.
 pub mod Age
+pub mod Key

@@ -6,7 +6,7 @@ ghost use Rattle.order.specs.Order.{inOrder};
 ghost use Rattle.refusals.specs.Limits.{mostRecords};
 ghost use Rattle.table.specs.Record.{recordOf, largestTable};
 ghost use Rattle.table.specs.Stands.{Stands};
-ghost use Rattle.age.specs.Age.{keyOf};
+ghost use Rattle.age.specs.Key.{keyOf};
 use refusals::limit::RECORDS;
 
 // A key is a timestamp and a slot: the timestamp counts in steps of this many.

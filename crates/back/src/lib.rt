@@ -5,7 +5,7 @@ ghost use lib.Dec.{eqb};
 ghost use Rattle.places.specs.Choice.{pick};
 ghost use Rattle.table.specs.Stands.{Stands};
 ghost use Rattle.placing.specs.Hangable.{Hangable, leaves};
-ghost use Rattle.age.specs.Age.{slotIn};
+ghost use Rattle.age.specs.Key.{slotIn};
 ghost use Rattle.back.specs.Loop.Puts.{putsIn};
 ghost use Rattle.back.specs.Loop.Pending.{Pending, restBack};
 use age::SLOTS;

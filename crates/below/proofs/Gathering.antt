@@ -9,8 +9,8 @@ use lib.ListN.{length, length-map, set, take, drop, length-append, drop-of-lengt
 use lib.Seq.{sets, sets-eq, length-sets, take-at, drop-cons, length-take-le, getD-take}
 use Rattle.places.specs.Fill.{sets-append}
 use Rattle.table.specs.Record.{Record, slot, children}
-use Rattle.tree.specs.View.Under.{under}
-use Rattle.age.specs.Age.{keyOf}
+use Rattle.tree.specs.View.{under}
+use Rattle.age.specs.Key.{keyOf}
 use Rattle.below.specs.Loop.Gather.{Gathered, slotsUnder, gathered}
 
 pub parts : {l l′ : List ℕ} {a a′ : ℕ} → l ≡ l′ → a ≡ a′

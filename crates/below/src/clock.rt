@@ -6,7 +6,7 @@ ghost use Rattle.refusals.specs.Limits.{mostRecords};
 ghost use Rattle.table.specs.Record.{recordOf};
 ghost use Rattle.table.specs.Stands.{Stands, StandTo};
 ghost use Rattle.survey.specs.Survey.{largestTimestamp};
-ghost use Rattle.age.specs.Age.{slotIn};
+ghost use Rattle.age.specs.Key.{slotIn};
 ghost use Rattle.below.specs.Loop.Clock.{noMarks, marked, unmarked, timestampIn};
 use age::SLOTS;
 use refusals::limit::RECORDS;

@@ -18,12 +18,12 @@ use Rattle.admission.specs.Admission.{admissionTests}
 use Rattle.placing.specs.Place.{Placed}
 use Rattle.placing.specs.Changed.{changed}
 use Rattle.removal.specs.Removal.{leaving, removed}
-use Rattle.age.specs.Age.{byAge}
+use Rattle.age.specs.Age.{oldestFirst}
 use Rattle.back.specs.Back.{putBack}
 
 -- the slots that stood below v, "oldest first by their old timestamps"
 unfoldable pub waiting : List Record → ℕ → List ℕ
-waiting rows v = byAge rows (drop 1 (leaving rows v))
+waiting rows v = oldestFirst (λ s. at rows s .timestamp) (drop 1 (leaving rows v))
 
 -- the records after the deletion of slot v, and the distances worked out
 unfoldable pub deleted : ℕ → List Record → ℕ → Placed

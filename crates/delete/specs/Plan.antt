@@ -38,7 +38,7 @@ use Rattle.survey.specs.Answers.{Answers}
 use Rattle.survey.specs.Survey.{usedIn, rootOf, kindOf, slotOfCard, largestTimestamp}
 use Rattle.admission.specs.declared.Admitted.{Admitted}
 use Rattle.admission.specs.Admission.{Admits, admitted-readable}
-use Rattle.tree.specs.View.Under.{under}
+use Rattle.tree.specs.View.{under}
 use Rattle.view.specs.Readable.{formed-walkable}
 use Rattle.view.specs.Freed.{freedAt}
 use Rattle.placing.specs.Changed.{changed}
@@ -46,7 +46,7 @@ use Rattle.placing.specs.Hangable.{leaves}
 use Rattle.removal.specs.Removal.{leaving, removed, unhung}
 use Rattle.removal.specs.Leaving.{Held}
 use Rattle.removal.specs.Lent.{held-stands}
-use Rattle.age.specs.Age.{keyOf, slotIn}
+use Rattle.age.specs.Key.{keyOf, slotIn}
 use Rattle.back.specs.Loop.Pending.{Pending, restBack, restBack-over}
 use Rattle.delete.specs.Delete.{waiting, deleted, clockWouldPass}
 use Rattle.delete.specs.Waiting.{leavingKeys, leaving-length, keys-waiting}

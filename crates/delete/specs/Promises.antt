@@ -1,5 +1,5 @@
 -- What delete promises, of its outcome for every input. The table is bytes. Assumes nothing.
-use Prim.Native.Nat.{ℕ, _≤_}
+use Prim.Native.Nat.{ℕ, suc, _≤_}
 use mathlib.Core.Path.{_≡_, refl, sym, ap, subst, _∙_}
 use mathlib.Core.Bool.{Bool, true, false}
 use mathlib.Core.Logic.{_↔_}
@@ -9,7 +9,7 @@ use lib.ListN.{length}
 use borrow.Author.Tests.{eqb-true, eq-eqb}
 use Rattle.places.specs.Choice.{pick}
 use Rattle.number.specs.Frame.{Bytes}
-use Rattle.table.specs.Record.{Record, recordOf, free}
+use Rattle.table.specs.Record.{Record, recordOf, free, children}
 use Rattle.table.specs.Table.{recordsIn, recordsOf, at}
 use Rattle.table.specs.Records.{records-length}
 use Rattle.table.specs.RoundTrip.{row-fits, rows-back}
@@ -22,7 +22,10 @@ use Rattle.placing.specs.Stored.{Stored}
 use Rattle.newcomer.specs.Newcomer.{Newcomer}
 use Rattle.placing.specs.Changed.{changed}
 use Rattle.refusals.specs.Outcome.{refused}
-use Rattle.delete.specs.Delete.{deleted, refusalOf, deleteOf}
+use Rattle.tree.specs.Slots.{_∈_}
+use Rattle.tree.specs.View.{Rising, Below}
+use Rattle.delete.specs.Delete.{waiting, deleted, refusalOf, deleteOf}
+use Rattle.delete.specs.Waiting.{waiting-rising, waiting-below}
 use Rattle.removal.specs.Leaving.{Held}
 use Rattle.delete.specs.Deleted.{deleted-returned, deleted-sound, deleted-stored, deleted-free}
 use Rattle.delete.specs.Call.{accepted-held, accepted-arity, accepted-clock, accepted-slot}
@@ -71,6 +74,15 @@ module _ (l : List ℕ) (card arity : ℕ) where
 
     to-8 : arity ≤ mostChildren
     to-8 = accepted-arity l card arity none
+
+    -- the records that stood below the card go back "oldest first by their old timestamps"
+    pub back-oldest-first : Rising (λ s. tableOf l s .timestamp) (waiting (recordsOf l) v)
+    back-oldest-first = waiting-rising held
+
+    -- and these are the ones: every record below the card, and no other
+    pub back-all-below :
+        (s : ℕ) → s ∈ waiting (recordsOf l) v ↔ ((k : ℕ) × Below (λ a. children (tableOf l a)) s (suc k) v)
+    back-all-below s = waiting-below held s
 
     module _ (bytes : Bytes l) where
       -- the bytes afterwards hold the records that the rule gives

@@ -33,7 +33,7 @@ use Rattle.removal.specs.Leaving.{
   removed-out,
 }
 use Rattle.removal.specs.Removed.{removed-is, removed-all, removed-rootOf}
-use Rattle.age.specs.Age.{ageKey, slotIn}
+use Rattle.age.specs.Key.{ageKey, slotIn}
 use Rattle.back.specs.Returnable.{returnable-same}
 use Rattle.back.specs.Loop.Turn.{Turn, formed-linked}
 use Rattle.delete.specs.Delete.{waiting}

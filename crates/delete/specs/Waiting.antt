@@ -1,5 +1,6 @@
--- The slots that wait to go back are those that stood below the deleted card, each once, and in their keys the deleted
--- card's own comes first, since it is the oldest (`keys-first`). Assumes nothing.
+-- The slots that wait to go back are those that stood below the deleted card, each once, oldest first
+-- (`waiting-rising`), and by keys they are the same (`waiting-keys`): the deleted card's own key comes first, since it is
+-- the oldest (`keys-first`). Assumes nothing.
 use Prim.Native.Nat.{ℕ, zero, suc, _+_, _≤_, _<_}
 use mathlib.Core.Path.{_≡_, sym, ap, _∙_}
 use mathlib.Core.Logic.{_↔_}
@@ -10,7 +11,7 @@ use Rattle.order.specs.Order.{inOrder}
 use Rattle.table.specs.Record.{Record, children}
 use Rattle.table.specs.Table.{at}
 use Rattle.tree.specs.Slots.{_∈_, Distinct, image-from}
-use Rattle.tree.specs.View.{Below, here}
+use Rattle.tree.specs.View.{Below, here, Rising}
 use Rattle.tree.specs.View.Shape.{below-younger}
 use Rattle.view.specs.Formed.{used-within}
 use Rattle.removal.specs.Removal.{leaving}
@@ -23,7 +24,9 @@ use Rattle.removal.specs.Leaving.{
   below-iff,
   below-distinct,
 }
-use Rattle.age.specs.Age.{slotSpan, ageKey, slotIn, inOrder-first, byAge-iff, byAge-distinct, byAge-length}
+use Rattle.age.specs.Age.{Ages, oldestFirst-rising}
+use Rattle.age.specs.Key.{slotSpan, ageKey, slotIn, byAge, inOrder-first}
+use Rattle.age.specs.Key.{byAge-iff, byAge-distinct, byAge-length, byAge-oldest}
 use Rattle.delete.specs.Delete.{waiting}
 
 -- the keys of all that leave, in age order
@@ -46,22 +49,53 @@ module _ {rows : List Record} {v : ℕ} (held : Held rows v) where
 
   -- ---- the slots that wait
 
-  pub waiting-low : (s : ℕ) → s ∈ waiting rows v ↔ s ∈ drop 1 (leaving rows v)
+  -- no two of them have one timestamp
+  low-ages : Ages (λ s. at rows s .timestamp) low
+  low-ages a b i j =
+      let of : (s : ℕ) → s ∈ low → s ∈ leaving rows v = λ s k. below-iff held s .0 k .0 in
+      held .well-formed .timestamps a b (leaving-within a (of a i)) (leaving-within b (of b j))
+      (leaving-used held a (of a i)) (leaving-used held b (of b j))
+
+  -- the code's way, by keys, is the paper's
+  waiting-keys : waiting rows v ≡ byAge rows low
   unfolding waiting
-  waiting-low s = byAge-iff rows low low-span s
+  waiting-keys = sym (byAge-oldest rows low low-span (below-distinct held) low-ages)
+
+  -- "oldest first by their old timestamps"
+  pub waiting-rising : Rising (λ s. at rows s .timestamp) (waiting rows v)
+  unfolding waiting
+  waiting-rising = oldestFirst-rising (λ s. at rows s .timestamp) low (below-distinct held) low-ages
+
+  pub waiting-low : (s : ℕ) → s ∈ waiting rows v ↔ s ∈ drop 1 (leaving rows v)
+  waiting-low s = rw waiting-keys (byAge-iff rows low low-span s)
 
   -- they are those that leave with v
   pub waiting-iff : (s : ℕ) → s ∈ waiting rows v ↔ (s ∈ leaving rows v × (s ≡ v → ⊥))
   waiting-iff s = (λ i. below-iff held s .0 (waiting-low s .0 i), λ z. waiting-low s .1 (below-iff held s .1 z))
 
+  -- they are "every record below it"
+  pub waiting-below : (s : ℕ) → s ∈ waiting rows v ↔ ((k : ℕ) × Below (λ a. children (at rows a)) s (suc k) v)
+  waiting-below s = (
+    λ i. let z = waiting-iff s .0 i in let w = leaving-iff held s .0 (z .0) in strictly (w .0) (w .1) (z .1),
+    λ w.
+        waiting-iff s .1 (
+          leaving-iff held s .1 (suc (w .0), w .1),
+          λ e. omega (arith, below-younger (held-seen held) (w .1), ap (λ (a : ℕ). at rows a .timestamp) e),
+        ),
+  )
+    where
+      strictly : (k : ℕ) → Below (λ a. children (at rows a)) s k v → (s ≡ v → ⊥)
+          → (j : ℕ) × Below (λ a. children (at rows a)) s (suc j) v
+      strictly zero (here e) ne = absurd (ne e)
+      strictly (suc k) p ne = (k, p)
+
   pub waiting-distinct : Distinct (waiting rows v)
-  unfolding waiting
-  waiting-distinct = byAge-distinct rows low low-span (below-distinct held)
+  waiting-distinct = rw waiting-keys (byAge-distinct rows low low-span (below-distinct held))
 
   -- m: "the number of records that stood below it"
   pub leaving-length : length (leaving rows v) ≡ suc (length (waiting rows v))
-  unfolding waiting
-  leaving-length = ap length (leaving-first held) ∙ ap suc (sym (byAge-length rows low))
+  leaving-length =
+      ap length (leaving-first held) ∙ ap suc (sym (ap length waiting-keys ∙ byAge-length rows low))
 
   -- ---- the keys of all that leave
 
@@ -89,5 +123,4 @@ module _ {rows : List Record} {v : ℕ} (held : Held rows v) where
       (λ y i. let z = image-from (ageKey rows) y low i in rw (z .2) (oldest (z .0) (z .1)))
 
   pub keys-waiting : map slotIn (drop 1 (leavingKeys rows v)) ≡ waiting rows v
-  unfolding waiting
-  keys-waiting = ap (λ (l : List ℕ). map slotIn (drop 1 l)) keys-first
+  keys-waiting = ap (λ (l : List ℕ). map slotIn (drop 1 l)) keys-first ∙ sym waiting-keys

@@ -58,17 +58,14 @@ reading-at l at i h =
 
 -- ---- four words
 
--- word k of the mask: the eight bytes that readings 4k to 4k + 3 hold, low byte first
+-- "256 fault bits, four 64-bit words": word k of the mask is the eight bytes that readings 4k to 4k + 3 hold, low byte
+-- first
 unfoldable pub wordOf : List ℕ → ℕ → ℕ
 wordOf a k =
     getD a (4 * k) 0
     + 65536 * getD a (4 * k + 1) 0
     + 4294967296 * getD a (4 * k + 2) 0
     + 281474976710656 * getD a (4 * k + 3) 0
-
--- "256 fault bits, four 64-bit words"
-abbrev pub wordsOf : List ℕ → List ℕ
-wordsOf a = wordOf a 0 ∷ wordOf a 1 ∷ wordOf a 2 ∷ wordOf a 3 ∷ []
 
 pub word-lt : (a : List ℕ) (k : ℕ) → Fit a → wordOf a k < 2 ^ 64
 unfolding wordOf

@@ -1,5 +1,5 @@
--- What the paper asks, as definitions: of a table after a history (`Holds`), of an accepted search (`Finds`), and of
--- the refusals of a call (`Refuses`).
+-- What the paper asks, as definitions: of a table after a history (`Holds`), of an accepted search (`Finds`), of all
+-- searches on a table (`ListsExactly`), and of the refusals of a call (`Refuses`).
 use Prim.Native.Nat.{ℕ, _≤_}
 use mathlib.Core.Path.{_≡_}
 use mathlib.Core.Logic.{_↔_}
@@ -8,17 +8,15 @@ use lib.ListN.{length, take, drop}
 use Rattle.number.specs.Frame.{Bytes}
 use Rattle.distance.specs.Signature.{readingsAt}
 use Rattle.distance.specs.Kind.{apart}
-use Rattle.table.specs.Record.{recordOf}
+use Rattle.table.specs.Record.{Used, recordOf}
 use Rattle.table.specs.Table.{recordsIn}
 use Rattle.table.specs.Stands.{AreRecords}
-use Rattle.judge.specs.WellFormed.{WellFormed}
 use Rattle.tree.specs.Slots.{_∈_, Distinct}
 use Rattle.refusals.specs.Refusal.{Test, firstOf, done}
 use Rattle.newcomer.specs.Newcomer.{Newcomer}
 use Rattle.placing.specs.Stored.{Stored}
 use Rattle.view.specs.Sound.{SoundTable}
-use Rattle.search.specs.Search.{Outcome}
-use Rattle.search.specs.Laws.{comparedSlots}
+use Rattle.search.specs.Search.{Outcome, comparedSlots, searchOf}
 use Rattle.history.specs.History.{State}
 
 -- the numbers of these cards
@@ -31,7 +29,7 @@ cardsOf stored = map (λ (x : Newcomer). x .card) stored
 pub record Holds (n : ℕ) (st : State) : Type 0 where
   pub size : AreRecords (st .table) n
   pub bytes : Bytes (st .table)
-  pub well-formed : WellFormed n (recordOf (st .table))
+  -- sound, and so well formed
   pub sound : SoundTable n (recordOf (st .table))
   -- "the used records are exactly the stored cards with those kinds and signatures"
   pub stored : (x : Newcomer) → Stored n (recordOf (st .table)) x ↔ List·Memᴰ x (st .stored)
@@ -63,6 +61,20 @@ pub record Finds (st : State) (kind : ℕ) (s : List ℕ) (r : ℕ) (list : List
   -- "works out at most as many distances as cards are stored": the count is of the cards compared
   pub count-is : o .count ≡ length (comparedCards (st .table) kind s r)
   pub count-most : o .count ≤ length (st .stored)
+
+-- ---- every accepted search on a table, whatever made it
+
+-- each lists exactly the cards of the used records within its radius: it misses nothing, and lists nothing else
+abbrev pub ListsExactly : List ℕ → Type 0
+ListsExactly l =
+    (kind : ℕ) (s : List ℕ) (r : ℕ) (list : List ℕ)
+    → searchOf l kind s r list .refusal ≡ done
+    → (c : ℕ)
+    → c ∈ take (searchOf l kind s r list .found) (searchOf l kind s r list .list)
+    ↔ ((a : ℕ)
+    × Used (recordOf l a)
+    × (recordOf l a .card ≡ c)
+    × (apart kind (recordOf l a .readings) (readingsAt s 0) ≤ r))
 
 -- ---- every call
 

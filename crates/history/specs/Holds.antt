@@ -36,7 +36,6 @@ free-holds n =
     record {
       size = free-are n;
       bytes = free-bytes n;
-      well-formed = wf;
       sound =
           record {
             well-formed = wf;
@@ -82,7 +81,6 @@ table-holds {n} t rows stored is back e ok each once =
     record {
       size = subst (AreRecords t) e (whole-are t whole);
       bytes = bytes;
-      well-formed = subst (WellFormed n) same (ok .well-formed);
       sound = subst (SoundTable n) same ok;
       stored = λ x. subst (λ (R : ℕ → Record). Stored n R x ↔ List·Memᴰ x stored) same (each x);
       once = once;

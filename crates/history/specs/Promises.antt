@@ -3,15 +3,17 @@
 -- history is, and Demands.antt, what is asked. Assumes nothing.
 use Prim.Native.Nat.{ℕ, _≤_}
 use mathlib.Core.Path.{_≡_, refl, sym, _∙_}
-use mathlib.Core.Bool.{_&&_, not}
+use mathlib.Core.Bool.{true, _&&_, not}
+use mathlib.Core.Logic.{_↔_}
 use mathlib.Core.List.{List, [], _∷_}
 use lib.Dec.{leb, ltb, eqb}
 use lib.ListN.{length}
+use Rattle.number.specs.Frame.{Bytes}
 use Rattle.table.specs.Record.{recordOf}
 use Rattle.refusals.specs.Limits.{mostRecords, lastTimestamp, signatureLength}
 use Rattle.table.specs.Table.{rightSize, recordsIn, recordsOf}
 use Rattle.writing.specs.Clear.{Cleared, clearOf}
-use Rattle.judge.specs.WellFormed.{wellFormed}
+use Rattle.judge.specs.WellFormed.{WellFormed, wellFormed}
 use Rattle.survey.specs.Survey.{usedIn, slotOfCard, lowestFree, largestTimestamp}
 use Rattle.refusals.specs.Refusal.{SIZE, TABLE, ARGUMENT, KIND, TWICE, ABSENT, FULL, CLOCK, SHORT, LOOSE, firstOf, done}
 use Rattle.admission.specs.Query.{otherKind, knownChange}
@@ -28,7 +30,8 @@ use Rattle.search.specs.Search as Search
 use Rattle.search.specs.Promises.{refusal-is, count-narrower}
 use Rattle.soundness.specs.Soundness.{isSound, checkOf}
 use Rattle.history.specs.History.{Call, AllTyped, State, cleared, run}
-use Rattle.history.specs.Demands.{Holds, Finds, Refuses}
+use Rattle.history.specs.Demands.{Holds, Finds, ListsExactly, Refuses}
+use Rattle.history.specs.Complete.{check-exactly}
 use Rattle.history.specs.Kept.{run-holds}
 use Rattle.history.specs.Searched.{search-finds, check-done}
 use Rattle.history.specs.Refused.{clear-refusal, clear-untouched, insert-refusal, delete-refusal}
@@ -121,16 +124,30 @@ module _ {n : ℕ} (some : 1 ≤ n) (small : n ≤ mostRecords) (calls : List Ca
       → Finds reached kind signature radius list (searchOf (reached .table) kind signature radius list)
   history-search kind s r list = search-finds some small history-holds kind s r list
 
-  -- a smaller radius never costs more distances
+  -- a smaller radius never costs more distances, whatever lists are lent, where both searches are accepted; a refused
+  -- one costs nothing
   pub history-narrower :
-      (kind : ℕ) (signature list : List ℕ) {r r′ : ℕ}
+      (kind : ℕ) (signature : List ℕ) {r r′ : ℕ} (list list′ : List ℕ)
       → r ≤ r′
-      → searchOf (reached .table) kind signature r list .count ≤ searchOf (reached .table) kind signature r′ list .count
-  history-narrower kind s list h = count-narrower (reached .table) kind s list h
+      → (searchOf (reached .table) kind signature r list .refusal ≡ done
+      → searchOf (reached .table) kind signature r′ list′ .refusal ≡ done)
+      → searchOf (reached .table) kind signature r list .count
+      ≤ searchOf (reached .table) kind signature r′ list′ .count
+  history-narrower kind s list list′ h both = count-narrower (reached .table) kind s list list′ h both
 
   -- check answers 0
   pub history-check : checkOf (reached .table) ≡ done
   history-check = check-done some small history-holds
+
+-- ---- check, on any bytes: 0 exactly of a well-formed table of the right size on which every search lists exactly what
+-- it should, so that "sound" means to a user that nothing is missed
+
+pub check-means :
+    (l : List ℕ)
+    → Bytes l
+    → checkOf l ≡ done
+    ↔ ((rightSize (length l) ≡ true) × WellFormed (recordsIn l) (recordOf l) × ListsExactly l)
+check-means l bytes = check-exactly l bytes
 
 -- ---- each contract fixes its outcome: two that it allows are equal
 

@@ -23,10 +23,10 @@ use Rattle.refusals.specs.Refusal.{done}
 use Rattle.newcomer.specs.Newcomer.{Newcomer, brought, brought-card}
 use Rattle.view.specs.Shaped.{Shaped, shaped-bytes}
 use Rattle.view.specs.Formed.{formed-view, used-within}
-use Rattle.search.specs.Search.{entered, cards, listing, refusalOf, searchOf}
+use Rattle.search.specs.Search.{entered, cards, comparedSlots, listing, refusalOf, searchOf}
 use Rattle.search.specs.Tests.{accepted}
 use Rattle.search.specs.Listing.{cards-fit}
-use Rattle.search.specs.Laws.{accepted-is, comparedSlots}
+use Rattle.search.specs.Laws.{accepted-is}
 use Rattle.search.specs.Promises.{refusal-is, count-compared, compared-once, listed-once, listed-exactly, later-stay}
 use Rattle.soundness.specs.Soundness.{checkOf}
 use Rattle.soundness.specs.Decided.{sound-decided}
@@ -44,7 +44,7 @@ module _ {n : ℕ} (some : 1 ≤ n) (small : n ≤ mostRecords) {st : State} (h 
   shape = shaped-bytes n (st .table) (h .size)
 
   formed : 1 ≤ usedIn n R → Formed (viewOf R) n (rootOf n R)
-  formed = formed-view small shape (h .well-formed)
+  formed = formed-view small shape (h .sound .well-formed)
 
   -- a used record's card is stored, with what the record brought
   used-stored : (a : ℕ) → Used (R a) → List·Memᴰ (brought (R a)) (st .stored)
@@ -58,8 +58,8 @@ module _ {n : ℕ} (some : 1 ≤ n) (small : n ≤ mostRecords) {st : State} (h 
       rw (
         sized some small h,
         records-are h,
-        formed-decided n R .passes (h .well-formed),
-        sound-decided small shape (h .well-formed) .passes (h .sound),
+        formed-decided n R .passes (h .sound .well-formed),
+        sound-decided small shape (h .sound .well-formed) .passes (h .sound),
       )
 
   -- ---- search
@@ -97,7 +97,7 @@ module _ {n : ℕ} (some : 1 ≤ n) (small : n ≤ mostRecords) {st : State} (h 
         (λ a b i j.
         let u = slot-used a i in
         let w = slot-used b j in
-        h .well-formed .cards a b (used-within shape a u) (used-within shape b w) u w)
+        h .sound .well-formed .cards a b (used-within shape a u) (used-within shape b w) u w)
         (compared-once (st .table) kind s r list none)
 
     slots-stored : (c : ℕ) → c ∈ comparedCards (st .table) kind s r → c ∈ cardsOf (st .stored)

@@ -1,6 +1,6 @@
 -- What insert promises, of its outcome for every input. The arguments are numbers of their types: the table and the
 -- signature are bytes, and the card is a 32-bit number. Assumes nothing.
-use Prim.Native.Nat.{ℕ, _^_, _<_}
+use Prim.Native.Nat.{ℕ, _+_, _^_, _≤_, _<_}
 use mathlib.Core.Path.{_≡_, refl, sym, ap, _∙_, subst}
 use mathlib.Core.Bool.{Bool, true, false}
 use mathlib.Core.Logic.{_⊎_, _↔_}
@@ -11,7 +11,7 @@ use lib.ListN.{length}
 use borrow.Author.Tests.{eqb-true, eq-eqb}
 use Rattle.places.specs.Choice.{pick}
 use Rattle.number.specs.Frame.{Bytes}
-use Rattle.distance.specs.Signature.{readings-fit}
+use Rattle.distance.specs.Signature.{readingsAt, readings-fit}
 use Rattle.distance.specs.Kind.{apart}
 use Rattle.table.specs.Record.{Record, recordOf}
 use Rattle.table.specs.Table.{recordsIn, recordsOf, at}
@@ -19,11 +19,15 @@ use Rattle.table.specs.Records.{records-length}
 use Rattle.table.specs.Size.{rows-are}
 use Rattle.table.specs.RoundTrip.{row-fits, rows-back}
 use Rattle.judge.specs.WellFormed.{WellFormed}
-use Rattle.survey.specs.Survey.{lowestFree, largestTimestamp}
+use Rattle.survey.specs.Survey.{usedIn, rootOf, lowestFree, largestTimestamp}
+use Rattle.tree.specs.Insert.{IsWalk, last}
+use Rattle.view.specs.View.{viewOf}
 use Rattle.refusals.specs.Refusal.{done}
 use Rattle.view.specs.Sound.{SoundTable}
 use Rattle.placing.specs.Stored.{Stored, settled-stored}
-use Rattle.placing.specs.Place.{placed}
+use Rattle.placing.specs.Place.{placed, hangingFrom}
+use Rattle.placing.specs.Place.Text as Text
+use Rattle.placing.specs.Place.Text.{placed-text}
 use Rattle.newcomer.specs.Newcomer.{Newcomer}
 use Rattle.placing.specs.Place.Settled.{Ready}
 use Rattle.placing.specs.Place.Keeps.{placed-length, placed-settled, placed-sound-table}
@@ -85,6 +89,31 @@ module _ (l : List ℕ) (card kind arity : ℕ) (s : List ℕ) where
 
     ready : Ready n arity (lowestFree n (recordOf l)) (comer card kind s) (recordsOf l)
     ready = accepted-ready l card kind arity s none
+
+    -- ---- the paper's text, with no word of depth: w is any walk that obeys it, and there is one
+
+    -- the record of a used table hangs below the last record that the walk visits from the root
+    pub inserted-text :
+        1 ≤ usedIn n (tableOf l)
+        → (w : ℕ → List ℕ)
+        → IsWalk (apart kind) (viewOf (tableOf l)) (readingsAt s 0) arity w
+        → inserted l card kind arity s
+        ≡ hangingFrom
+        (apart kind)
+        arity
+        (lowestFree n (recordOf l))
+        (comer card kind s)
+        (recordsOf l)
+        (largestTimestamp n (tableOf l) + 1)
+        (last (rootOf n (tableOf l)) (w (rootOf n (tableOf l))))
+        (w (rootOf n (tableOf l)))
+    unfolding inserted
+    inserted-text some w is = placed-text (apart kind) ready some w is
+
+    pub text-walks :
+        1 ≤ usedIn n (tableOf l)
+        → (w : ℕ → List ℕ) × IsWalk (apart kind) (viewOf (tableOf l)) (readingsAt s 0) arity w
+    text-walks some = Text.text-walks (apart kind) ready some
 
     clock : largestTimestamp n (tableOf l) < lastTimestamp
     clock =

@@ -17,7 +17,6 @@ use Rattle.distance.specs.Signature.{readingsAt}
 use Rattle.distance.specs.Kind.{apart}
 use Rattle.distance.specs.Readings.{readingsApart}
 use Rattle.distance.specs.Edges.{P10 as readings-apart, P11 as masks-apart}
-use Rattle.order.specs.Order.{inOrder, putAmong}
 use Rattle.table.specs.Record.{Record, free, recordOf}
 use Rattle.table.specs.Table.{at, recordsOf}
 use Rattle.table.specs.Size.{rows-are}
@@ -25,8 +24,7 @@ use Rattle.writing.specs.Put.{putRadius}
 use Rattle.judge.specs.WellFormed.{wellFormed, isFree, isFilled, pastCount, allFormed, distinct, oneKind, oneRoot}
 use Rattle.judge.specs.WellFormed.{allHung, allOwned, allRising}
 use Rattle.survey.specs.Survey.{firstFrom, usedIn, rootOf, kindOf, slotOfCard, lowestFree, largestTimestamp}
-use Rattle.tree.specs.View.{distanceCount, childCounts}
-use Rattle.tree.specs.View.Under.{under}
+use Rattle.tree.specs.View.{distanceCount, childCounts, under}
 use Rattle.tree.specs.Slots.{keep}
 use Rattle.tree.specs.Remove.{except}
 use Rattle.tree.specs.Search.{visit, turn, isVisited, bound, enters, least, listed}
@@ -39,6 +37,7 @@ use Rattle.insert.specs.Insert.{rightArguments}
 use Rattle.search.specs.Search.{entered, cards, distances}
 use Rattle.view.specs.Freed.{freedAt}
 use Rattle.removal.specs.Removal.{leaving, removed, unhung, disowning}
+use Rattle.age.specs.Age.{oldestFirst, putByAge}
 use Rattle.back.specs.Back.{putBack}
 use Rattle.delete.specs.Delete.{deleted, waiting, clockWouldPass}
 use Rattle.soundness.specs.Soundness.{isSound, allCovered, allNear, allIn, checkOf}
@@ -161,16 +160,17 @@ on-rows :
     × (at sixRows 0 .radius ≡ 30)
     × (checkOn (reradius 0 29 sixRows) ≡ 10)
     × (storedAfter paperListing (replicate 512 free) [] ≡ leftStored)
+    × (reportOn (look 52 0) sixRows ≡ line 0 5 1 (14 ∷ []))
 unfolding reportsOn reportOn afterOn runOn
     insertRefusal insertPlaced deleteRefusal deletePlaced searchRefusal searchLine
     rightArguments otherKind clockWouldPass readingsAt numberAt
     placed asRoot hanging hangingFrom raisedAlong raised adopting fresh path last nearest onward hangs keep
     firstFrom usedIn countTo rootOf kindOf slotOfCard lowestFree largestTimestamp distanceCount childCounts
     apart readingsApart sumTo cards entered distances visit turn isVisited bound enters least listed
-    deleted putBack waiting leaving removed freedAt unhung disowning under except inOrder putAmong flatMap
+    deleted putBack waiting leaving removed freedAt unhung disowning under except oldestFirst putByAge flatMap
     storedAfter storedOn without checkOn reradius isSound allCovered allNear allIn
     wellFormed isFree isFilled pastCount allFormed distinct oneKind oneRoot allHung allOwned allRising allTo
-on-rows = (refl, refl, refl, refl, refl, refl)
+on-rows = (refl, refl, refl, refl, refl, refl, refl)
 
 -- ---- the table
 
@@ -189,6 +189,9 @@ pub record Edges : Type 0 where
   pub P12 : reportOf (call (look 40 0)) (run (calls sixCards) (cleared 512)) ≡ line 0 4 1 (15 ∷ [])
   -- "after line 6 with record 11's radius set from 30 to 29: check gives 10"
   pub P13 : (recordOf six 0 .card ≡ 11) × (recordOf six 0 .radius ≡ 30) × (checkOf (putRadius six 0 29) ≡ 10)
+  -- "After line 6, a search for 52 with radius 0": an index that counts the parent among the candidates "misses card
+  -- 14, because 11 is nearer but was full"; this was the fault that forgot eleven cards
+  pub parent-nearer : reportOf (call (look 52 0)) (run (calls sixCards) (cleared 512)) ≡ line 0 5 1 (14 ∷ [])
 
 pub edges : Edges
 unfolding apart
@@ -218,6 +221,7 @@ edges =
             ∙ ap (λ (q : List Record). checkOn (reradius 0 29 q)) rows
             ∙ on-rows .4,
       );
+      parent-nearer = report-on some small holds (look 52 0) ∙ ap (reportOn (look 52 0)) rows ∙ on-rows .6;
     }
 
 -- ---- the main theorem is not about nothing: five cards are stored after the listing, and its theorem holds of them

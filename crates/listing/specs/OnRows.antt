@@ -90,7 +90,7 @@ module _ {m : ℕ} (some : 1 ≤ m) (small : m ≤ mostRecords) {st : State} (h 
   size = sized some small h
 
   formed : wellFormed (recordsIn (st .table)) (recordOf (st .table)) ≡ true
-  formed = rw (records-are h) (formed-decided m (recordOf (st .table)) .passes (h .well-formed))
+  formed = rw (records-are h) (formed-decided m (recordOf (st .table)) .passes (h .sound .well-formed))
 
   insert-same :
       (card kind arity : ℕ) (s : List ℕ)

@@ -21,6 +21,7 @@ pub mod Settled
 pub mod Root
 pub mod Child
 pub mod Keeps
+pub mod Text
 
 -- ---- the rule
 

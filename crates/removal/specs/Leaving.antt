@@ -25,9 +25,9 @@ use Rattle.table.specs.Table.{at}
 use Rattle.judge.specs.WellFormed.{WellFormed, Filled}
 use Rattle.survey.specs.Survey.{usedIn, rootOf}
 use Rattle.tree.specs.Slots.{_∈_, Distinct}
-use Rattle.tree.specs.View.{Formed, Below, usedCount}
+use Rattle.tree.specs.View.{Formed, Below, usedCount, under}
 use Rattle.tree.specs.View.Shape.{children-distinct, below-younger}
-use Rattle.tree.specs.View.Under.{under, under-iff, under-is, under-distinct, under-used}
+use Rattle.tree.specs.View.Under.{under-iff, under-is, under-distinct, under-used}
 use Rattle.tree.specs.Remove.{except}
 use Rattle.view.specs.View.{viewOf}
 use Rattle.view.specs.Shaped.{Shaped}

@@ -7,7 +7,7 @@ use Rattle.places.specs.Choice.{pick}
 use Rattle.table.specs.Record.{Record, children, noSlot}
 use Rattle.table.specs.Table.{at}
 use Rattle.survey.specs.Survey.{usedIn}
-use Rattle.tree.specs.View.Under.{under}
+use Rattle.tree.specs.View.{under}
 use Rattle.tree.specs.Remove.{except}
 use Rattle.view.specs.Freed.{freedAt}
 

@@ -7,11 +7,9 @@ use mathlib.Core.List.{List, [], _++_, List·Memᴰ·not-nil}
 use native.Mathlib.Omega.{arith}
 use native.Mathlib.Nat.{zero-add}
 use native.Mathlib.Decide.{ℕ-discrete}
-use lib.Dec.{eqb}
 use lib.ListN.{length, drop}
 use lib.Seq.{sets, sets-eq}
 use borrow.Author.Tests.{eq-eqb, ne-eqb}
-use Rattle.places.specs.Choice.{pick}
 use Rattle.distance.specs.Signature.{readingsAt}
 use Rattle.distance.specs.Kind.{apart, apart-distance}
 use Rattle.table.specs.Record.{Record, Used}
@@ -25,7 +23,7 @@ use Rattle.tree.specs.Search.Finds.{listed-once, listed-iff}
 use Rattle.view.specs.View.{viewOf}
 use Rattle.refusals.specs.Refusal.{done}
 use Rattle.view.specs.Survey.{usedIn-usedCount}
-use Rattle.search.specs.Search.{outcome, noBound, entered, cards, distances}
+use Rattle.search.specs.Search.{outcome, noBound, entered, cards, distances, comparedSlots}
 use Rattle.search.specs.Search.{refusalOf, refused, listingOf, searchOf}
 use Rattle.search.specs.Listing.{entered-some, distances-none, distances-some, cards-none}
 
@@ -51,20 +49,16 @@ module _ (l : List ℕ) (kind : ℕ) (s : List ℕ) (r : ℕ) (list : List ℕ) 
 -- ---- the records compared, of n records
 
 module _ (n : ℕ) (R : ℕ → Record) (kind : ℕ) (q : List ℕ) (r : ℕ) where
-  -- "the cards compared are the root and the children of entered records": their slots, none in a free table
-  unfoldable pub comparedSlots : List ℕ
-  comparedSlots = pick (eqb (usedIn n R) 0) [] (compared (viewOf R) (rootOf n R) (entered n R kind q r))
-
-  compared-none : usedIn n R ≡ 0 → comparedSlots ≡ []
+  compared-none : usedIn n R ≡ 0 → comparedSlots n R kind q r ≡ []
   unfolding comparedSlots
   compared-none e = rw (eq-eqb _ _ e)
 
-  compared-some : 1 ≤ usedIn n R → comparedSlots ≡ compared (viewOf R) (rootOf n R) (entered n R kind q r)
+  compared-some : 1 ≤ usedIn n R → comparedSlots n R kind q r ≡ compared (viewOf R) (rootOf n R) (entered n R kind q r)
   unfolding comparedSlots
   compared-some h = rw (ne-eqb (usedIn n R) 0 (λ e. omega arith))
 
   -- the distance count is the number of records compared
-  pub distances-compared : distances n R kind q r ≡ length comparedSlots
+  pub distances-compared : distances n R kind q r ≡ length (comparedSlots n R kind q r)
   distances-compared = elim (ℕ-discrete (usedIn n R) 0) [
     | yes e ↦ rw (distances-none n R kind q r e, compared-none e)
     | no ne ↦
@@ -75,7 +69,7 @@ module _ (n : ℕ) (R : ℕ → Record) (kind : ℕ) (q : List ℕ) (r : ℕ) wh
   ]
 
   -- no record is compared twice
-  pub compared-distinct : (1 ≤ usedIn n R → Formed (viewOf R) n (rootOf n R)) → Distinct comparedSlots
+  pub compared-distinct : (1 ≤ usedIn n R → Formed (viewOf R) n (rootOf n R)) → Distinct (comparedSlots n R kind q r)
   compared-distinct formed = elim (ℕ-discrete (usedIn n R) 0) [
     | yes e ↦ rw (compared-none e) tt
     | no ne ↦

@@ -1,7 +1,7 @@
 -- What a search promises, in the paper's words, of the outcome that its contract fixes. Of the distance only the four
 -- laws are used. Assumes nothing.
 use Prim.Native.Nat.{ℕ, _≤_}
-use mathlib.Core.Path.{_≡_, sym}
+use mathlib.Core.Path.{_≡_, sym, _∙_}
 use mathlib.Core.Logic.{_↔_}
 use mathlib.Core.List.{List}
 use native.Mathlib.Omega.{arith}
@@ -15,17 +15,20 @@ use Rattle.table.specs.Record.{Used, recordOf}
 use Rattle.table.specs.Table.{recordsIn}
 use Rattle.survey.specs.Survey.{usedIn, rootOf}
 use Rattle.tree.specs.Slots.{_∈_, Distinct}
-use Rattle.tree.specs.View.{Formed}
+use Rattle.tree.specs.View.{Formed, Late, usedCount}
+use Rattle.tree.specs.Search.{IsWalk, walk}
+use Rattle.tree.specs.Search.Fuel.{walk-obeys, walk-only, visit-unbounded}
 use Rattle.view.specs.View.{viewOf}
 use Rattle.refusals.specs.Refusal.{done}
 use Rattle.view.specs.Formed.{used-within}
 use Rattle.view.specs.Sound.{SoundTable}
 use Rattle.survey.specs.Laws.{usedIn-seen}
-use Rattle.search.specs.Search.{outcome, cards, refusalOf, listing, searchOf}
+use Rattle.search.specs.Search.{outcome, noBound, entered, cards, comparedSlots, refusalOf, listing, searchOf}
 use Rattle.view.specs.Readable.{readable-seen, readable-shaped}
 use Rattle.search.specs.Tests.{accepted}
-use Rattle.search.specs.Listing.{unbounded, cards-fit, distances-fit}
-use Rattle.search.specs.Laws.{accepted-is, refused-is, comparedSlots, distances-compared, compared-distinct}
+use Rattle.view.specs.Survey.{usedIn-usedCount}
+use Rattle.search.specs.Listing.{unbounded, entered-some, cards-fit, distances-fit}
+use Rattle.search.specs.Laws.{accepted-is, refused-is, distances-compared, compared-distinct}
 use Rattle.search.specs.Laws.{distances-narrower, cards-distinct, cards-exactly, laid}
 
 -- of the table l, the kind and the signature's bytes s
@@ -48,16 +51,21 @@ module _ (l : List ℕ) (kind : ℕ) (s : List ℕ) where
       → searchOf l kind s r list ≡ outcome (refusalOf l kind s (length list)) 0 0 list
   refused-leaves r list n = refused-is l kind s r list n
 
-  -- a smaller radius never costs more
+  -- a smaller radius never costs more, whatever lists are lent, where both searches are accepted; a refused one costs
+  -- nothing
   pub count-narrower :
-      {r r′ : ℕ} (list : List ℕ) → r ≤ r′ → searchOf l kind s r list .count ≤ searchOf l kind s r′ list .count
+      {r r′ : ℕ} (list list′ : List ℕ)
+      → r ≤ r′
+      → (searchOf l kind s r list .refusal ≡ done → searchOf l kind s r′ list′ .refusal ≡ done)
+      → searchOf l kind s r list .count ≤ searchOf l kind s r′ list′ .count
   unfolding listing
-  count-narrower {r} {r′} list h = elim (ℕ-discrete (refusalOf l kind s (length list)) done) [
+  count-narrower {r} {r′} list list′ h both = elim (ℕ-discrete (refusalOf l kind s (length list)) done) [
     | yes e ↦
+        let e′ = sym (refusal-is r′ list′) ∙ both (refusal-is r list ∙ e) in
         rw
-        (accepted-is l kind s r list e, accepted-is l kind s r′ list e)
+        (accepted-is l kind s r list e, accepted-is l kind s r′ list′ e′)
         (distances-narrower (recordsIn l) (recordOf l) kind (readingsAt s 0) h)
-    | no n ↦ rw (refused-is l kind s r list n, refused-is l kind s r′ list n) (omega arith)
+    | no n ↦ rw (refused-is l kind s r list n) (omega arith)
   ]
 
   -- ---- for every accepted call, on a sound table or a loose one
@@ -75,6 +83,41 @@ module _ (l : List ℕ) (kind : ℕ) (s : List ℕ) where
         1 ≤ usedIn (recordsIn l) (recordOf l)
         → Formed (viewOf (recordOf l)) (recordsIn l) (rootOf (recordsIn l) (recordOf l))
     formed = readable-seen (accepted l kind s (length list) e .readable)
+
+    -- ---- the paper's text, with no word of depth
+
+    -- the slots entered are those of the walk that the text gives, from the root, under any bound above every timestamp
+    -- in use ("no bound on time"); w is any walk that obeys the text
+    pub entered-text :
+        Bytes l
+        → 1 ≤ usedIn (recordsIn l) (recordOf l)
+        → (w : ℕ → ℕ → List ℕ)
+        → IsWalk (apart kind) (viewOf (recordOf l)) (readingsAt s 0) r w
+        → (t : ℕ)
+        → Late (viewOf (recordOf l)) t
+        → entered (recordsIn l) (recordOf l) kind (readingsAt s 0) r ≡ w (rootOf (recordsIn l) (recordOf l)) t
+    entered-text bytes some w is t late =
+        let n = recordsIn l in
+        let R = recordOf l in
+        let v = viewOf (recordOf l) in
+        let q = readingsAt s 0 in
+        let wf = formed some in
+        let fuel : usedCount v n ≤ usedIn n R = omega (arith, usedIn-usedCount n R) in
+        entered-some n R kind q r some
+        ∙ visit-unbounded (apart kind) v q r wf (usedIn n R) (rootOf n R) noBound t (wf .root-used)
+        (unbounded l bytes) late
+        ∙ sym (walk-only (apart kind) v q r wf w is (usedIn n R) (rootOf n R) t fuel (wf .root-used))
+
+    -- and there is a walk that obeys it
+    pub text-walks :
+        1 ≤ usedIn (recordsIn l) (recordOf l)
+        → (w : ℕ → ℕ → List ℕ) × IsWalk (apart kind) (viewOf (recordOf l)) (readingsAt s 0) r w
+    text-walks some = (
+      walk (apart kind) (viewOf (recordOf l)) (readingsAt s 0) r (recordsIn l),
+      walk-obeys (apart kind) (viewOf (recordOf l)) (readingsAt s 0) r (formed some),
+    )
+
+    -- ---- counts and cards
 
     -- the count is the number of records compared
     pub count-compared : searchOf l kind s r list .count ≡ length comparedBy
@@ -100,7 +143,8 @@ module _ (l : List ℕ) (kind : ℕ) (s : List ℕ) where
         let room = accepted l kind s (length list) e .room in
         omega (arith, cards-fit (recordsIn l) (recordOf l) kind (readingsAt s 0) r formed)
 
-    listed-cards : listedBy ≡ found
+    -- the cards listed, in their order, are the definition's
+    pub listed-cards : listedBy ≡ found
     unfolding listing
     listed-cards =
         rw (accepted-is l kind s r list e, laid found list fits) (take-append-seam found (drop (length found) list))

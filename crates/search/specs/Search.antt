@@ -11,7 +11,7 @@ use Rattle.distance.specs.Kind.{apart}
 use Rattle.table.specs.Record.{Record, recordOf}
 use Rattle.table.specs.Table.{recordsIn}
 use Rattle.survey.specs.Survey.{usedIn, rootOf}
-use Rattle.tree.specs.View.{distanceCount}
+use Rattle.tree.specs.View.{distanceCount, compared}
 use Rattle.tree.specs.Search.{visit, listed}
 use Rattle.view.specs.View.{viewOf}
 use Rattle.admission.specs.Admission.{admissionTests}
@@ -46,6 +46,10 @@ module _ (n : ℕ) (R : ℕ → Record) (kind : ℕ) (q : List ℕ) (r : ℕ) wh
   -- "1 plus the child counts of all entered records (if the root is not entered, 1); 0 in a free table"
   unfoldable pub distances : ℕ
   distances = pick (eqb (usedIn n R) 0) 0 (distanceCount (viewOf R) entered)
+
+  -- "the cards compared are the root and the children of entered records": their slots, none in a free table
+  unfoldable pub comparedSlots : List ℕ
+  comparedSlots = pick (eqb (usedIn n R) 0) [] (compared (viewOf R) (rootOf n R) entered)
 
 -- ---- the call
 

@@ -18,8 +18,8 @@ use Rattle.judge.specs.WellFormed.{WellFormed}
 use Rattle.survey.specs.Survey.{usedIn, rootOf, kindOf}
 use Rattle.tree.specs.Slots.{_∈_, flatMap-from, flatMap-to}
 use Rattle.places.specs.Cases.{either}
-use Rattle.tree.specs.View.{usedCount, Below, down, Formed, Sound}
-use Rattle.tree.specs.View.Under.{under, under-is, under-from, under-to, used-shallow}
+use Rattle.tree.specs.View.{usedCount, Below, down, Formed, Sound, under}
+use Rattle.tree.specs.View.Under.{under-is, under-from, under-to, used-shallow}
 use Rattle.view.specs.View.{viewOf}
 use Rattle.view.specs.Shaped.{Shaped}
 use Rattle.survey.specs.Laws.{usedIn-none}

@@ -9,7 +9,7 @@ use Rattle.table.specs.Record.{Record, recordOf, children}
 use Rattle.table.specs.Table.{recordsIn}
 use Rattle.judge.specs.WellFormed.{eachUsed}
 use Rattle.survey.specs.Survey.{usedIn, kindOf}
-use Rattle.tree.specs.View.Under.{under}
+use Rattle.tree.specs.View.{under}
 use Rattle.refusals.specs.Refusal.{LOOSE, firstOf}
 use Rattle.admission.specs.Admission.{admissionTests}
 

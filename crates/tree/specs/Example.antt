@@ -1,5 +1,6 @@
 -- The definitions at work on the paper's listing: the table after its line 6 (cards 11 to 16, reading 0 alone, arity
--- 2). Lines 7 and P12 come out as printed, and the search that "Errors that look right" gives first finds its card.
+-- 2). Line 7 comes out as printed, and the search that "Errors that look right" gives first finds its card. The edges
+-- themselves, on the listing's own table, are in the crate `listing`.
 use Prim.Native.Nat.{ℕ, _+_, _-_}
 use mathlib.Core.Path.{_≡_, refl}
 use mathlib.Core.List.{List, [], _∷_}
@@ -31,9 +32,9 @@ line-7 : found 48 5 ≡ (11 ∷ 14 ∷ [], 5)
 unfolding distance six keep usedCount childCounts distanceCount least enters isVisited bound turn visit listed
 line-7 = refl
 
-P12 : found 40 0 ≡ (15 ∷ [], 4)
+below-13 : found 40 0 ≡ (15 ∷ [], 4)
 unfolding distance six keep usedCount childCounts distanceCount least enters isVisited bound turn visit listed
-P12 = refl
+below-13 = refl
 
 -- "a search for 52 with radius 0": card 11 is nearer to it than card 12, below which card 14 stands
 nearer-parent : listed distance six 52 0 (walk distance six 52 0 8 0 7) ≡ 14 ∷ []

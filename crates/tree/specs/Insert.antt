@@ -45,6 +45,11 @@ module _ {Sig : Type 0} (d : Sig → Sig → ℕ) (v : View Sig) (x : Sig) (arit
   path zero a = []
   path (suc f) a = a ∷ onward (path f) a (v .children a)
 
+  -- the same by the paper's text alone, with no word of depth: a is visited, and then "repeat at c" or nothing. `Fuel`
+  -- shows that there is one such walk and no other, and that it is `path`
+  abbrev pub IsWalk : (ℕ → List ℕ) → Type 0
+  IsWalk w = (a : ℕ) → Used v a → w a ≡ a ∷ onward w a (v .children a)
+
   -- the walk from a in a table of n slots
   abbrev pub walk : ℕ → ℕ → List ℕ
   walk n a = path (usedCount v n) a

@@ -2,13 +2,15 @@
 -- (`compared` of View) and the distance count (`distanceCount` of View) are functions of that list.
 use Prim.Native.Nat.{ℕ, suc, zero, _+_, _*_, min}
 use mathlib.Core.Bool.{Bool, true, false, _&&_}
+use mathlib.Core.Path.{_≡_}
 use mathlib.Core.List.{List, [], _∷_, _++_}
 use lib.Dec.{leb, ltb}
 use Rattle.tree.specs.Slots.{keep}
-use Rattle.tree.specs.View.{View, away, usedCount}
+use Rattle.tree.specs.View.{View, Used, away, usedCount}
 pub mod Once
 pub mod Wider
 pub mod Finds
+pub mod Needed
 pub mod Fuel
 pub mod Turn
 
@@ -48,6 +50,11 @@ module _ {Sig : Type 0} (d : Sig → Sig → ℕ) (v : View Sig) (q : Sig) (r : 
   -- the walk from a with bound t in a table of n slots: "Depth never exceeds the number of used records"
   abbrev pub walk : ℕ → ℕ → ℕ → List ℕ
   walk n a t = visit (usedCount v n) a t
+
+  -- "Visiting a with bound t" by the paper's text alone, with no word of depth: w tells what is entered, and each child
+  -- is visited "by the same walk". `Fuel` shows that there is one such walk and no other, and that it is `visit`
+  abbrev pub IsWalk : (ℕ → ℕ → List ℕ) → Type 0
+  IsWalk w = (a t : ℕ) → Used v a → w a t ≡ keep (enters a t) (a ∷ turn w t [] (v .children a))
 
   -- 2. "If that distance is at most r, a's card is listed": the cards listed of the slots entered
   unfoldable pub listed : List ℕ → List ℕ

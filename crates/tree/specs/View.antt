@@ -62,6 +62,12 @@ pub data Below (children : ℕ → List ℕ) (x : ℕ) : ℕ → ℕ → Type 0 
   here : {a : ℕ} → x ≡ a → Below children x zero a
   down : {k a b : ℕ} → b ∈ children a → Below children x k b → Below children x (suc k) a
 
+-- all that stands at or below a slot, in walk order: the slot, then for each child in turn what stands at or below it;
+-- fuel: the levels left
+unfoldable pub under : (ℕ → List ℕ) → ℕ → ℕ → List ℕ
+under children zero a = []
+under children (suc f) a = a ∷ flatMap (under children f) (children a)
+
 -- nothing stands f or more levels below a
 abbrev pub Shallow : (ℕ → List ℕ) → ℕ → ℕ → Type 0
 Shallow children f a = (k x : ℕ) → Below children x k a → k < f

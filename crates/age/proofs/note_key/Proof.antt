@@ -4,7 +4,7 @@ use mathlib.Core.Path.{ap}
 use lib.ListN.{set}
 use Rattle.table.specs.Table.{recordsIn}
 use Rattle.table.specs.Stands.{in-stands}
-use Rattle.age.specs.Age.{slotSpan}
+use Rattle.age.specs.Key.{slotSpan}
 use borrow.Author.Needs.{needs}
 use Rattle.age.proofs.note_key.Statement.{statement}
 use Rattle.age.proofs.note_key.Tie as tie

@@ -7,7 +7,7 @@ use native.Mathlib.Omega.{arith}
 use lib.ListN.{length, getD, drop}
 use borrow.Author.Needs.{needs}
 use Rattle.refusals.specs.Limits.{mostRecords, lastTimestamp}
-use Rattle.age.specs.Age.{slotIn, slots-next, slots-end}
+use Rattle.age.specs.Key.{slotIn, slots-next, slots-end}
 use Rattle.back.specs.Loop.Pending.{
   Pending,
   CountFits,

@@ -20,7 +20,7 @@ use Rattle.placing.specs.Place.{Placed}
 use Rattle.newcomer.specs.Newcomer.{brought}
 use Rattle.placing.specs.Hangable.{Hangable, leaves}
 use Rattle.placing.specs.HangableFrom.{hangable}
-use Rattle.age.specs.Age.{slotIn}
+use Rattle.age.specs.Key.{slotIn}
 use Rattle.back.specs.Back.{putBack, putBack-same}
 use Rattle.view.specs.Freed.{freedAt, freed-none, freed-out}
 use Rattle.back.specs.Returned.{returnable-few}

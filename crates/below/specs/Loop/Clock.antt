@@ -15,7 +15,7 @@ use Rattle.refusals.specs.Limits.{mostRecords}
 use Rattle.table.specs.Record.{Record, Used, used, free}
 use Rattle.survey.specs.Survey.{largestTimestamp}
 use Rattle.tree.specs.Slots.{_∈_, ∈-decide}
-use Rattle.age.specs.Age.{slotIn}
+use Rattle.age.specs.Key.{slotIn}
 
 -- ---- marks
 

@@ -5,8 +5,8 @@ use lib.ListN.{length}
 use lib.Seq.{sets}
 use Rattle.order.specs.Order.{inOrder}
 use Rattle.table.specs.Record.{Record, children}
-use Rattle.tree.specs.View.Under.{under}
-use Rattle.age.specs.Age.{keyOf}
+use Rattle.tree.specs.View.{under}
+use Rattle.age.specs.Key.{keyOf}
 
 pub record Gathered : Type 0 where
   pub keys : List ℕ

@@ -1,5 +1,6 @@
 -- Fuel for the used records is enough for an insertion's walk too: more changes nothing, so the walk obeys the
--- paper's text with no word of fuel (`walk-is`). Assumes nothing.
+-- paper's text with no word of fuel (`walk-is`), and every walk that obeys it is this one (`walk-only`). Assumes
+-- nothing.
 use Prim.Native.Nat.{ℕ, suc, zero, _≤_}
 use mathlib.Core.Bool.{not}
 use mathlib.Core.Path.{_≡_, refl, sym, ap, _∙_}
@@ -9,7 +10,7 @@ use Rattle.tree.specs.Slots.{_∈_, keep}
 use Rattle.tree.specs.View.{View, Used, Shallow, Formed, usedCount}
 use Rattle.tree.specs.View.Shape.{shallow-some, shallow-child}
 use Rattle.tree.specs.View.Under.{used-shallow}
-use Rattle.tree.specs.Insert.{nearest, hangs, onward, path, walk}
+use Rattle.tree.specs.Insert.{nearest, hangs, onward, path, walk, IsWalk}
 use Rattle.tree.specs.Insert.Path.{nearest-∈}
 
 module _ {Sig : Type 0} (d : Sig → Sig → ℕ) (v : View Sig) (x : Sig) (arity : ℕ) where
@@ -39,3 +40,22 @@ module _ {Sig : Type 0} (d : Sig → Sig → ℕ) (v : View Sig) (x : Sig) (arit
     -- steps 2 and 3: a, and then nothing, or the same from its nearest child
     pub walk-is : walk d v x arity n a ≡ a ∷ onward d v x arity (walk d v x arity n) a (v .children a)
     walk-is = sym (path-fuel (suc (usedCount v n)) (omega arith)) ∙ unfold path in refl
+
+  -- ---- the paper's text has one walk
+
+  module _ {n root : ℕ} (wf : Formed v n root) where
+    pub walk-obeys : IsWalk d v x arity (walk d v x arity n)
+    walk-obeys a u = walk-is wf a u
+
+    -- a walk that obeys the text is this one as deep as there is anything
+    walk-deep : (w : ℕ → List ℕ) → IsWalk d v x arity w → (f a : ℕ) → Used v a → Shallow (v .children) f a
+        → w a ≡ path d v x arity f a
+    unfolding path
+    walk-deep w is zero a u h = absurd (shallow-some h)
+    walk-deep w is (suc f) a u h = is a u ∙ ap (a ∷_)
+        (onward-same w (path d v x arity f) a (v .children a)
+        (λ b i. walk-deep w is f b (wf .child-used a b i) (shallow-child h i)))
+
+    pub walk-only : (w : ℕ → List ℕ) → IsWalk d v x arity w → (f a : ℕ) → usedCount v n ≤ f → Used v a
+        → w a ≡ path d v x arity f a
+    walk-only w is f a h u = walk-deep w is f a u (used-shallow wf f a u h)

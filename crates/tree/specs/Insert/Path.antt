@@ -13,9 +13,9 @@ use lib.Dec.{ltb}
 use borrow.Author.Tests.{ltb-true, ltb-false}
 use Rattle.tree.specs.Slots.{_∈_, _⊑_, keep-from, keep-to, keep-part, flatMap-part, Distinct, distinct-part}
 use Rattle.places.specs.Cases.{either}
-use Rattle.tree.specs.View.{View, Used, away, Rising, Formed, usedCount, distanceCount}
+use Rattle.tree.specs.View.{View, Used, away, Rising, Formed, usedCount, distanceCount, under}
 use Rattle.tree.specs.View.Count.{distanceCount-at-most}
-use Rattle.tree.specs.View.Under.{under, under-distinct}
+use Rattle.tree.specs.View.Under.{under-distinct}
 use Rattle.tree.specs.Insert.{last, nearest, onward, path, attach}
 
 -- ---- the nearest child

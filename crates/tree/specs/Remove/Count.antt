@@ -7,10 +7,10 @@ use native.Mathlib.Omega.{arith}
 use lib.ListN.{length, length-append}
 use Rattle.tree.specs.Slots.{_∈_, ∈-decide, Distinct, distinct-append, distinct-length}
 use Rattle.places.specs.Cases.{either}
-use Rattle.tree.specs.View.{View, Used, Formed, usedCount}
+use Rattle.tree.specs.View.{View, Used, Formed, usedCount, under}
 use Rattle.tree.specs.View.Count.{usedSlots, usedSlots-length, usedSlots-from, usedSlots-to, usedSlots-distinct}
 use Rattle.tree.specs.View.Count.{used-at-most}
-use Rattle.tree.specs.View.Under.{under, under-iff, under-used, under-distinct}
+use Rattle.tree.specs.View.Under.{under-iff, under-used, under-distinct}
 use Rattle.tree.specs.Remove.{Removed}
 
 module _ {Sig : Type 0} {v w : View Sig} {n root b : ℕ}

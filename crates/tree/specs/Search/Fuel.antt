@@ -1,6 +1,6 @@
 -- Fuel for the used records is fuel enough: more changes nothing, so the walk obeys the paper's text with no word of
--- fuel (`walk-is`). And all bounds above every timestamp in use are one: no bound on time (`visit-unbounded`).
--- Assumes nothing.
+-- fuel (`walk-is`), and every walk that obeys it is this one (`walk-only`). And all bounds above every timestamp in use
+-- are one: no bound on time (`visit-unbounded`). Assumes nothing.
 use Prim.Native.Nat.{ℕ, suc, zero, _+_, _*_, _≤_, min}
 use mathlib.Core.Bool.{Bool, true, false, _&&_}
 use mathlib.Core.Path.{_≡_, refl, sym, ap, _∙_}
@@ -12,7 +12,7 @@ use Rattle.tree.specs.Slots.{_∈_, keep}
 use Rattle.tree.specs.View.{View, Used, Late, away, Shallow, Formed, usedCount}
 use Rattle.tree.specs.View.Shape.{shallow-some, shallow-child}
 use Rattle.tree.specs.View.Under.{used-shallow}
-use Rattle.tree.specs.Search.{least, enters, bound, turn, visit, walk}
+use Rattle.tree.specs.Search.{least, enters, bound, turn, visit, walk, IsWalk}
 
 ltb-min : (y x m : ℕ) → ltb y (min x m) ≡ ltb y x && ltb y m
 ltb-min y x m = go (ltb y x) (ltb y m) refl refl
@@ -52,6 +52,25 @@ module _ {Sig : Type 0} (d : Sig → Sig → ℕ) (v : View Sig) (q : Sig) (r : 
     pub walk-is : (t : ℕ)
         → walk d v q r n a t ≡ keep (enters d v q r a t) (a ∷ turn d v q r (walk d v q r n) t [] (v .children a))
     walk-is t = sym (visit-fuel (suc (usedCount v n)) t (omega arith)) ∙ unfold visit in refl
+
+  -- ---- the paper's text has one walk
+
+  module _ {n root : ℕ} (wf : Formed v n root) where
+    pub walk-obeys : IsWalk d v q r (walk d v q r n)
+    walk-obeys a t u = walk-is wf a u t
+
+    -- a walk that obeys the text is this one as deep as there is anything
+    walk-deep : (w : ℕ → ℕ → List ℕ) → IsWalk d v q r w → (f a t : ℕ) → Used v a → Shallow (v .children) f a
+        → w a t ≡ visit d v q r f a t
+    unfolding visit
+    walk-deep w is zero a t u h = absurd (shallow-some h)
+    walk-deep w is (suc f) a t u h = is a t u ∙ ap (λ (l : List ℕ). keep (enters d v q r a t) (a ∷ l))
+        (turn-same w (visit d v q r f) t [] (v .children a)
+        (λ b t′ i. walk-deep w is f b t′ (wf .child-used a b i) (shallow-child h i)))
+
+    pub walk-only : (w : ℕ → ℕ → List ℕ) → IsWalk d v q r w → (f a t : ℕ) → usedCount v n ≤ f → Used v a
+        → w a t ≡ visit d v q r f a t
+    walk-only w is f a t h u = walk-deep w is f a t u (used-shallow wf f a u h)
 
   -- ---- no bound on time
 

@@ -4,9 +4,9 @@ use Prim.Native.Nat.{ℕ, suc, zero, _≤_}
 use mathlib.Core.Path.{refl}
 use mathlib.Core.List.{List, [], _∷_, flatMap, Sublistᴰ·slnil, Sublistᴰ·cons-cons, Sublistᴰ·append}
 use Rattle.tree.specs.Slots.{_∈_, _⊑_, ⊑-∈, Distinct, distinct-part, keep-part}
-use Rattle.tree.specs.View.{View, Used, Formed, usedCount, compared, distanceCount}
+use Rattle.tree.specs.View.{View, Used, Formed, usedCount, compared, distanceCount, under}
 use Rattle.tree.specs.View.Count.{compared-distinct, distanceCount-at-most}
-use Rattle.tree.specs.View.Under.{under, under-distinct, under-used}
+use Rattle.tree.specs.View.Under.{under-distinct, under-used}
 use Rattle.tree.specs.Search.{turn, visit}
 
 -- what is entered stands at or below the slot visited, in the order of the whole tree

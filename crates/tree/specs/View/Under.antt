@@ -3,20 +3,15 @@
 use Prim.Native.Nat.{ℕ, suc, zero, _≤_, _<_}
 use mathlib.Core.Path.{_≡_, refl, sym, ap, _∙_}
 use mathlib.Core.Logic.{_↔_}
-use mathlib.Core.List.{List, [], _∷_, flatMap, List·Memᴰ·head as first, List·Memᴰ·tail as later, List·Memᴰ·not-nil}
+use mathlib.Core.List.{List, _∷_, flatMap, List·Memᴰ·head as first, List·Memᴰ·tail as later, List·Memᴰ·not-nil}
 use native.Mathlib.Omega.{arith}
 use lib.ListN.{length}
 use Rattle.tree.specs.Slots.{_∈_, part-length, Distinct, distinct-flatMap}
 use Rattle.tree.specs.Slots.{flatMap-from, flatMap-to, flatMap-part, flatMap-same}
-use Rattle.tree.specs.View.{View, Used, Below, here, down, Shallow, Formed, usedCount}
+use Rattle.tree.specs.View.{View, Used, Below, here, down, under, Shallow, Formed, usedCount}
 use Rattle.tree.specs.View.Shape.{shallow-some, shallow-child, below-younger, below-used}
 use Rattle.tree.specs.View.Shape.{siblings-same, children-distinct}
 use Rattle.tree.specs.View.Count.{used-at-most}
-
--- the slot, then for each child in turn what stands at or below it; fuel: the levels left
-unfoldable pub under : (ℕ → List ℕ) → ℕ → ℕ → List ℕ
-under children zero a = []
-under children (suc f) a = a ∷ flatMap (under children f) (children a)
 
 -- ---- in any table
 

@@ -3,7 +3,7 @@
 use Prim.Native.Nat.{_-_, _≤_}
 use mathlib.Core.Path.{_≡_, refl, sym, _∙_}
 use lib.ListN.{length, getD, drop, length-set}
-use Rattle.age.specs.Age.{slotIn}
+use Rattle.age.specs.Key.{slotIn}
 use Rattle.below.specs.Loop.Clock.{marked, marked-all, marked-more, marked-end}
 use native.Mathlib.Omega.{arith}
 use borrow.Author.Needs.{needs}

@@ -10,7 +10,7 @@ use borrow.Author.Needs.{needs}
 use Rattle.order.specs.Order.{inOrder}
 use Rattle.order.specs.InOrder.{inOrder-length}
 use Rattle.table.specs.Record.{recordOf}
-use Rattle.age.specs.Age.{keyOf}
+use Rattle.age.specs.Key.{keyOf}
 use Rattle.below.specs.Loop.Gather.{slotsUnder}
 use Rattle.below.proofs.Gathering
 use Rattle.below.proofs.gather.in_age_order.Statement.{statement}
