@@ -3,7 +3,8 @@
 -- Demands    what is asked: of a table after a history, of an accepted search, of a refusal
 -- Promises   the promises, whole: demand 1 for each call, demand 3 over histories, and that contracts fix outcomes
 -- The other files prove them: each call's two cases (Refused); what holds in a cleared table and in one that a call
--- leaves (Holds); that every call keeps it (Kept); and what a search and a check give where it holds (Searched).
+-- leaves (Holds); that every call keeps it (Kept); and what a search, a check, and a question for what is stored give
+-- where it holds (Searched, Inventory).
 -- The paper's listing and P1 to P13 are in the crate `listing`.
 pub mod History
 pub mod Demands
@@ -11,4 +12,5 @@ pub mod Refused
 pub mod Holds
 pub mod Kept
 pub mod Searched
+pub mod Inventory
 pub mod Promises

@@ -27,12 +27,18 @@ use Rattle.search.specs.Search.{searchOf}
 use Rattle.search.specs.Search as Search
 use Rattle.search.specs.Promises.{refusal-is, count-narrower}
 use Rattle.soundness.specs.Soundness.{isSound, checkOf}
+use Rattle.inventory.specs.Cards.{allCardsOf}
+use Rattle.inventory.specs.Cards as Cards
+use Rattle.inventory.specs.Card.{oneCardOf}
+use Rattle.inventory.specs.Card as Card
+use Rattle.inventory.specs.Promises as Inventories
 use Rattle.history.specs.History.{Call, AllTyped, State, cleared, run}
 use Rattle.history.specs.Demands.{Holds, Finds, Refuses}
 use Rattle.history.specs.Kept.{run-holds}
 use Rattle.history.specs.Searched.{search-finds, check-done}
 use Rattle.history.specs.Refused.{clear-refusal, clear-untouched, insert-refusal, delete-refusal}
 use Rattle.history.specs.Refused.{search-untouched}
+use Rattle.history.specs.Inventory.{Lists, Tells, cards-lists, card-tells, cards-untouched, card-untouched}
 
 -- ---- demand 1: each call refuses by the first of its tests that holds, and a refused call leaves all as it was
 
@@ -103,6 +109,35 @@ module _ (l : List ℕ) where
   unfolding checkOf
   check-refuses = refl
 
+  -- the two calls beyond the paper
+  pub cards-refuses :
+      (list : List ℕ)
+      → Refuses
+      ((not (rightSize (length l)), SIZE)
+      ∷ (not (wellFormed (recordsIn l) (recordOf l)), TABLE)
+      ∷ (ltb (length list) (usedIn (recordsIn l) (recordOf l)), SHORT)
+      ∷ [])
+      (allCardsOf l list .refusal)
+      ((allCardsOf l list .found ≡ 0) × (allCardsOf l list .list ≡ list))
+  unfolding Cards.refusalOf
+  cards-refuses list =
+      record { first = Inventories.cards-refusal l list; untouched = cards-untouched l list }
+
+  pub card-refuses :
+      (card : ℕ) (row : List ℕ)
+      → Refuses
+      ((not (rightSize (length l)), SIZE)
+      ∷ (not (wellFormed (recordsIn l) (recordOf l)), TABLE)
+      ∷ (eqb card 0, ARGUMENT)
+      ∷ (leb (recordsIn l) (slotOfCard (recordsIn l) (recordOf l) card), ABSENT)
+      ∷ (ltb (length row) signatureLength, SHORT)
+      ∷ [])
+      (oneCardOf l card row .refusal)
+      ((oneCardOf l card row .kind ≡ 0) × (oneCardOf l card row .row ≡ row))
+  unfolding Card.refusalOf
+  card-refuses card row =
+      record { first = Inventories.card-refusal l card row; untouched = card-untouched l card row }
+
 -- ---- demand 3: after every history of calls on a table of n records that starts cleared
 
 module _ {n : ℕ} (some : 1 ≤ n) (small : n ≤ mostRecords) (calls : List Call) (typed : AllTyped calls) where
@@ -132,6 +167,18 @@ module _ {n : ℕ} (some : 1 ≤ n) (small : n ≤ mostRecords) (calls : List Ca
   pub history-check : checkOf (reached .table) ≡ done
   history-check = check-done some small history-holds
 
+  -- every accepted `cards` lists each stored card once and no other
+  pub history-cards :
+      (list : List ℕ)
+      → allCardsOf (reached .table) list .refusal ≡ done
+      → Lists reached list (allCardsOf (reached .table) list)
+  history-cards list = cards-lists some small history-holds list
+
+  -- `card` tells every stored card with what it was stored with, and refuses every other
+  pub history-card :
+      (card : ℕ) (row : List ℕ) → Tells reached card row (oneCardOf (reached .table) card row)
+  history-card card row = card-tells some small history-holds card row
+
 -- ---- each contract fixes its outcome: two that it allows are equal
 
 pub two-outcomes : {Outcome : Type 0} {one other fixed : Outcome} → one ≡ fixed → other ≡ fixed → one ≡ other
@@ -160,3 +207,14 @@ search-fixed l kind s r list o p = two-outcomes
 
 pub check-fixed : (l : List ℕ) (o p : ℕ) → o ≡ checkOf l → p ≡ checkOf l → o ≡ p
 check-fixed l o p = two-outcomes
+
+pub cards-fixed :
+    (l list : List ℕ) (o p : Cards.Outcome) → o ≡ allCardsOf l list → p ≡ allCardsOf l list → o ≡ p
+cards-fixed l list o p = two-outcomes
+
+pub card-fixed :
+    (l : List ℕ) (card : ℕ) (row : List ℕ) (o p : Card.Outcome)
+    → o ≡ oneCardOf l card row
+    → p ≡ oneCardOf l card row
+    → o ≡ p
+card-fixed l card row o p = two-outcomes
