@@ -2,19 +2,18 @@
 -- them. The key idea of the loop: what it writes past the cards found is written again, as long as a used record is
 -- left. Assumes nothing.
 use Prim.Native.Nat.{ℕ, zero, suc, _+_, _≤_, _<_}
-use mathlib.Core.Path.{_≡_, refl, sym, ap, ap₂, subst, _∙_}
-use mathlib.Core.Bool.{Bool, true, false, not}
-use mathlib.Core.Logic.{_↔_}
+use mathlib.Core.Path.{_≡_, refl, sym, ap, ap₂, _∙_}
+use mathlib.Core.Bool.{Bool, not}
 use mathlib.Core.List.{List, [], _∷_, _++_, append-nil, Memᴰ·append-left, Memᴰ·append-right}
 use mathlib.Core.List.{List·Memᴰ·head as first, List·Memᴰ·not-nil, List·Memᴰ·append-cases}
 use native.Mathlib.Omega.{arith}
 use native.Mathlib.Numerals.{add-one}
 use native.Mathlib.Nat.{zero-add}
-use lib.Dec.{eqb, leb}
+use lib.Dec.{eqb}
 use lib.ListN.{length, length-append, length-set, take, drop, set, take-append-drop}
 use lib.Seq.{sets, sets-eq, take-suc-set, take-set-le, drop-set-lt}
 use mir.Val.{boolByte}
-use borrow.Author.Tests.{leb-true, leb-false, le-leb, lt-leb, eq-eqb, ne-eqb}
+use borrow.Author.Tests.{leb-true, le-leb, lt-leb, eq-eqb, ne-eqb}
 use Rattle.places.specs.Choice.{pick}
 use Rattle.places.specs.Cases.{either, equal-or, below-or}
 use Rattle.places.specs.Test.{countTo, count-grows}

@@ -7,12 +7,12 @@ use mathlib.Core.List.{List}
 use native.Mathlib.Omega.{arith}
 use native.Mathlib.Decide.{ℕ-discrete}
 use lib.ListN.{length, take, drop}
-use lib.Seq.{sets, take-append-seam, drop-append-seam}
+use lib.Seq.{take-append-seam, drop-append-seam}
 use Rattle.number.specs.Frame.{Bytes}
 use Rattle.distance.specs.Signature.{readingsAt}
 use Rattle.refusals.specs.Limits.{signatureLength}
 use Rattle.refusals.specs.Refusal.{done}
-use Rattle.table.specs.Record.{Record, Used, recordOf}
+use Rattle.table.specs.Record.{Used, recordOf}
 use Rattle.table.specs.Table.{recordsIn}
 use Rattle.table.specs.Fitting.{record-fits}
 use Rattle.table.specs.Same.{readings-length-of}
@@ -24,7 +24,7 @@ use Rattle.view.specs.Readable.{readable-formed, readable-shaped}
 use Rattle.inventory.specs.Cards as Cards
 use Rattle.inventory.specs.Cards.{cardsIn, listing, allCardsOf}
 use Rattle.inventory.specs.Card as Card
-use Rattle.inventory.specs.Card.{signatureBytes, telling, oneCardOf}
+use Rattle.inventory.specs.Card.{telling, oneCardOf}
 use Rattle.inventory.specs.Tests.{cards-accepted, cards-refused, cards-readable, cards-room}
 use Rattle.inventory.specs.Tests.{card-accepted, card-refused, card-readable, card-some, card-within, card-room}
 use Rattle.inventory.specs.Listing.{laid-over, cards-length, cards-from, cards-to, cards-distinct}

@@ -1,12 +1,12 @@
 -- The row that a signature is put into: sixteen readings written one after the other are their bytes laid from the
 -- row's start, and they are read back. Assumes nothing.
-use Prim.Native.Nat.{ℕ, zero, suc, _+_, _*_, _≤_, _<_}
+use Prim.Native.Nat.{ℕ, zero, suc, _+_, _*_, _≤_}
 use mathlib.Core.Path.{_≡_, refl, sym, ap, ap₂, subst, _∙_}
 use mathlib.Core.List.{List, [], _∷_, _++_}
 use native.Mathlib.Omega.{arith}
 use native.Mathlib.Numerals.{add-one}
 use native.Mathlib.Nat.{zero-add, add-zero}
-use lib.ListN.{length, length-append, take, drop, getD, set}
+use lib.ListN.{length, take, drop, getD, set}
 use lib.Seq.{sets, take-suc, take-all, length-take-le, drop-append-seam}
 use Rattle.number.specs.Number.{digits, withNumber}
 use Rattle.distance.specs.Signature.{Fit, readingsAt}

@@ -2,7 +2,7 @@
 -- call that passes them all. Assumes nothing.
 use Prim.Native.Nat.{ℕ, _≤_, _<_}
 use mathlib.Core.Path.{_≡_, refl, sym, ap, ap₂, _∙_}
-use mathlib.Core.Bool.{Bool, true, false, _||_}
+use mathlib.Core.Bool.{false, _||_}
 use mathlib.Core.List.{List, [], _∷_, _++_}
 use native.Mathlib.Omega.{arith}
 use native.Mathlib.Decide.{ℕ-discrete}
@@ -13,7 +13,7 @@ use borrow.Author.Tests.{eq-eqb, ne-eqb, lt-ltb, le-ltb, le-leb, lt-leb, ltb-fal
 use Rattle.places.specs.Choice.{pick, or-left, or-right}
 use Rattle.places.specs.Cases.{below-or}
 use Rattle.refusals.specs.Refusal.{Test, ARGUMENT, ABSENT, SHORT, firstOf, done}
-use Rattle.refusals.specs.First.{numbered, first-append, first-none}
+use Rattle.refusals.specs.First.{first-append, first-none}
 use Rattle.refusals.specs.Limits.{signatureLength}
 use Rattle.table.specs.Record.{Record, recordOf}
 use Rattle.table.specs.Table.{recordsIn}
