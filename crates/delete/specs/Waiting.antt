@@ -1,6 +1,6 @@
 -- The slots that wait to go back are those that stood below the deleted card, each once, oldest first
--- (`waiting-rising`), and by keys they are the same (`waiting-keys`): the deleted card's own key comes first, since it is
--- the oldest (`keys-first`). Assumes nothing.
+-- (`waiting-rising`), and by keys they are the same (`waiting-keys`): the deleted card's own key comes first, since it
+-- is the oldest (`keys-first`). Assumes nothing.
 use Prim.Native.Nat.{ℕ, zero, suc, _+_, _≤_, _<_}
 use mathlib.Core.Path.{_≡_, sym, ap, _∙_}
 use mathlib.Core.Logic.{_↔_}

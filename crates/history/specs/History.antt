@@ -19,8 +19,10 @@ use Rattle.refusals.specs.Outcome.{Outcome}
 use Rattle.delete.specs.Delete.{deleteOf}
 use Rattle.search.specs.Search.{searchOf, Outcome as Listing}
 use Rattle.soundness.specs.Soundness.{checkOf}
+use Rattle.inventory.specs.Cards.{allCardsOf, Outcome as Inventory}
+use Rattle.inventory.specs.Card.{oneCardOf}
 
--- ---- the calls; a signature and a list are what the caller lends
+-- ---- the calls; a signature, a list and a row are what the caller lends
 
 -- those that write: they change the table, if they are accepted
 pub data Writing : Type 0 where
@@ -32,6 +34,8 @@ pub data Writing : Type 0 where
 pub data Reading : Type 0 where
   search : (kind : ℕ) (signature : List ℕ) (radius : ℕ) (list : List ℕ) → Reading
   check : Reading
+  allCards : (list : List ℕ) → Reading
+  oneCard : (card : ℕ) (row : List ℕ) → Reading
 
 pub data Call : Type 0 where
   writes : Writing → Call
@@ -113,10 +117,16 @@ ofOutcome o = line (o .refusal) (o .count) 0 []
 abbrev ofListing : Listing → Line
 ofListing o = line (o .refusal) (o .count) (o .found) (take (o .found) (o .list))
 
--- "distance count (0 for check), cards found (0 but for search), then the cards"
+abbrev ofInventory : Inventory → Line
+ofInventory o = line (o .refusal) 0 (o .found) (take (o .found) (o .list))
+
+-- "distance count (0 for check), cards found (0 but for search), then the cards"; the two calls beyond the paper work
+-- out no distance, and `cards` finds and lists all that are stored
 unfoldable pub tellsOf : Reading → List ℕ → Line
 tellsOf (search kind signature radius list) l = ofListing (searchOf l kind signature radius list)
 tellsOf check l = line (checkOf l) 0 0 []
+tellsOf (allCards list) l = ofInventory (allCardsOf l list)
+tellsOf (oneCard card row) l = line (oneCardOf l card row .refusal) 0 0 []
 
 unfoldable pub reportOf : Call → State → Line
 reportOf (writes c) st = ofOutcome (outcomeOf c (st .table))

@@ -3,8 +3,8 @@
 -- Demands    what is asked: of a table after a history, of an accepted search, of a refusal
 -- Promises   the promises, whole: demand 1 for each call, demand 3 over histories, and that contracts fix outcomes
 -- The other files prove them: each call's two cases (Refused); what holds in a cleared table and in one that a call
--- leaves (Holds); that every call keeps it (Kept); what a search and a check give where it holds (Searched); and what
--- check's answer means of any table (Complete).
+-- leaves (Holds); that every call keeps it (Kept); what a search, a check, and a question for what is stored give where
+-- it holds (Searched, Inventory); and what check's answer means of any table (Complete).
 -- The paper's listing and P1 to P13 are in the crate `listing`.
 pub mod History
 pub mod Demands
@@ -13,4 +13,5 @@ pub mod Holds
 pub mod Kept
 pub mod Searched
 pub mod Complete
+pub mod Inventory
 pub mod Promises

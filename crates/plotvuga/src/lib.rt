@@ -1,4 +1,4 @@
-// The library's doors: the five calls as C functions over lent bytes and numbers. include/plotvuga.h says what a C
+// The library's doors: the calls as C functions over lent bytes and numbers. include/plotvuga.h says what a C
 // caller needs to know. Each returns the paper's refusal number, 0 if it was done; counts go to where the caller
 // points.
 ghost use mathlib.Core.Path.{_≡_};
@@ -9,6 +9,10 @@ ghost use Rattle.delete.specs.Delete.{deleteOf};
 ghost use Rattle.search.specs.Search.{searchOf};
 ghost use Rattle.search.specs.Search.{Outcome as Listing};
 ghost use Rattle.soundness.specs.Soundness.{checkOf};
+ghost use Rattle.inventory.specs.Cards.{allCardsOf};
+ghost use Rattle.inventory.specs.Cards.{Outcome as Cards};
+ghost use Rattle.inventory.specs.Card.{oneCardOf};
+ghost use Rattle.inventory.specs.Card.{Outcome as Card};
 
 #[no_mangle]
 pub extern "C" fn plotvuga_clear(table: &mut [u8]) -> u32
@@ -75,4 +79,28 @@ pub extern "C" fn plotvuga_check(table: &[u8]) -> u32
     ensures { λ r. ⌜ r ≡ checkOf (now (table .entry)) ⌝ }
 {
     soundness::check(table) as u32
+}
+
+#[no_mangle]
+pub extern "C" fn plotvuga_cards(table: &[u8], list: &mut [u32], found: &mut u32) -> u32
+    ensures { λ r.
+        ⌜ _≡_ {A = Cards}
+        (record { refusal = r; found = now (found .exit); list = now (list .exit) })
+        (allCardsOf (now (table .entry)) (now (list .entry))) ⌝ }
+{
+    let r = inventory::cards(table, list);
+    *found = r.found;
+    r.refusal as u32
+}
+
+#[no_mangle]
+pub extern "C" fn plotvuga_card(table: &[u8], card: u32, row: &mut [u8], kind: &mut u8) -> u32
+    ensures { λ r.
+        ⌜ _≡_ {A = Card}
+        (record { refusal = r; kind = now (kind .exit); row = now (row .exit) })
+        (oneCardOf (now (table .entry)) card (now (row .entry))) ⌝ }
+{
+    let r = inventory::card(table, card, row);
+    *kind = r.kind;
+    r.refusal as u32
 }
