@@ -98,8 +98,8 @@ pub fn run(subject: &mut dyn Index, model: &mut dyn Index, history: &History) ->
     Ok(tally)
 }
 
-/// The first place in which what was lent to the two differs, in words.
-fn same<T: PartialEq + fmt::Display>(what: &str, own: &[T], right: &[T]) -> Result<(), String> {
+/// Refuses, in words, at the first place in which what was lent differs from what is right.
+pub fn same<T: PartialEq + fmt::Display>(what: &str, own: &[T], right: &[T]) -> Result<(), String> {
     match (0..own.len()).find(|place| own[*place] != right[*place]) {
         None => Ok(()),
         Some(place) => Err(format!("{what} {place} is {} and not {}", own[place], right[place])),

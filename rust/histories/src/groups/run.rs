@@ -5,8 +5,8 @@ use crate::doors::Doors;
 use crate::edges::{self, Step};
 use crate::guarded::Guarded;
 use model::calls::Model;
-use model::compare::{compare, run, Tally};
-use model::history::{History, Lent};
+use model::compare::{compare, run, same, Tally};
+use model::history::History;
 use model::random::Random;
 use model::refusal::name;
 
@@ -138,9 +138,12 @@ fn first_wrong<D: Doors>(index: &mut Guarded<D>, edge: &edges::Edge) -> Option<S
     for Step { command, answer, written } in edge.steps() {
         let (mut lent, before) = (command.lent(), command.lent());
         let own = command.make(index, &mut table, &mut lent);
-        let right = Lent { list: over(&before.list, &written.list), row: over(&before.row, &written.row) };
-        if own != Some(*answer) || lent != right {
-            return Some(format!("{command}\n{own:?} {lent:?}\nand not {answer:?} {right:?}"));
+        if own != Some(*answer) {
+            return Some(format!("{command}\n{own:?}\nand not {answer:?}"));
+        }
+        let list = same("list entry", &lent.list, &over(&before.list, &written.list));
+        if let Err(what) = list.and(same("row byte", &lent.row, &over(&before.row, &written.row))) {
+            return Some(format!("{command}\n{what}"));
         }
     }
     None
