@@ -9,10 +9,10 @@ out=$PWD/target/standin
 mkdir -p "$out"
 export CARGO_NET_OFFLINE=true CARGO_PROFILE_RELEASE_LTO=fat CARGO_PROFILE_RELEASE_PANIC=abort
 (cd rust && cargo build --release -q --target-dir "$out/build" -p standin ${1:+--features "$1"})
-# One object in which only the five functions can be seen, so that it can stand beside another Rust program's own
+# One object in which only the library's functions can be seen, so that it can stand beside another Rust program's own
 # runtime.
 ld -r --gc-sections -e plotvuga_check -u plotvuga_clear -u plotvuga_insert -u plotvuga_delete -u plotvuga_search \
-    -o "$out/plotvuga.o" "$out/build/release/libstandin.a"
+    -u plotvuga_cards -u plotvuga_card -o "$out/plotvuga.o" "$out/build/release/libstandin.a"
 objcopy --wildcard --keep-global-symbol='plotvuga_*' -R .llvmbc -R .llvmcmd -R .eh_frame -R .rela.eh_frame \
     "$out/plotvuga.o"
 rm -f "$out/libplotvuga.a"

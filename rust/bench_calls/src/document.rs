@@ -24,9 +24,10 @@ in turn, so a slower machine moves the times and hardly the ratios. Below 1 is f
 
 Tables were made by inserts with arity {arity}. Clustered: a few centres, readings within 40 of them or up to twelve
 bits turned. Uniform: random bytes, where no index can rule much out. `insert` goes into the last free record. A card in
-the middle has the median number of records below it, among those that have any. Judging alone is timed through a search
-that is refused with 3 right after it. These rows make one call on one table again and again; further down is what calls
-cost after other work.
+the middle has the median number of records below it, among those that have any. `cards` tells all cards in slot order,
+`card` what one card was stored with: the last slot's, which is found last. Judging alone is timed through a search that
+is refused with 3 right after it. These rows make one call on one table again and again; further down is what calls cost
+after other work.
 
 Machine: {}; load {}.
 

@@ -8,6 +8,7 @@ use std::fmt;
 use std::hint::black_box;
 use std::time::Duration;
 use timing::{changing, medians, reading, rounds_within, Work};
+use twin::record::{Signature, SIGNATURE};
 
 /// The time that one row may take in all, more or less.
 const ROW: Duration = Duration::from_millis(900);
@@ -85,6 +86,8 @@ pub fn measure(bench: &Bench, print: &mut dyn FnMut(Row)) {
     print(search(tables, "search, 1 in 100 found", Share::OneIn(100)));
     print(search(tables, "search, 1 in 10 found", Share::OneIn(10)));
     print(check(tables));
+    print(cards(tables));
+    print(card(tables));
 }
 
 /// The calls that a rack makes most, on several tables in turn.
@@ -202,4 +205,43 @@ fn check(tables: &[Bench]) -> Row {
     let library = reading(tables.len(), |table, _| assert_eq!(library::check(scans.table(table)), 0));
     let twin = reading(tables.len(), |table, _| assert_eq!(twin::check(scans.table(table)).refusal, 0));
     scans.row("check", library, twin)
+}
+
+/// All cards, told. What is timed is seen to write the same list.
+fn cards(tables: &[Bench]) -> Row {
+    let scans = Scans::of(tables, Share::OneIn(100));
+    let own = |table: usize, list: &mut [u32]| {
+        let mut found = 0;
+        assert_eq!(library::cards(scans.table(table), list, &mut found), 0);
+        found
+    };
+    let twins = |table: usize, list: &mut [u32]| twin::cards(scans.table(table), list).found;
+    let (mut one, mut other) = (scans.list(), scans.list());
+    for (table, bench) in tables.iter().enumerate() {
+        assert_eq!((own(table, &mut one), &one), (twins(table, &mut other), &other));
+        assert_eq!(one, bench.in_slot_order());
+    }
+    let library = reading(tables.len(), |table, _| own(table, &mut one));
+    let twin = reading(tables.len(), |table, _| twins(table, &mut other));
+    scans.row("cards", library, twin)
+}
+
+/// What the last slot's card was stored with. What is timed is seen to write the same row.
+fn card(tables: &[Bench]) -> Row {
+    let scans = Scans::of(tables, Share::OneIn(100));
+    let last: Vec<u32> = tables.iter().map(|bench| bench.in_slot_order().pop().unwrap()).collect();
+    let own = |table: usize, row: &mut Signature| {
+        let mut kind = 0;
+        assert_eq!(library::card(scans.table(table), last[table], row, &mut kind), 0);
+        kind
+    };
+    let twins = |table: usize, row: &mut Signature| twin::card(scans.table(table), last[table], row).kind;
+    let (mut one, mut other) = ([0; SIGNATURE], [0; SIGNATURE]);
+    for (table, bench) in tables.iter().enumerate() {
+        assert_eq!((own(table, &mut one), one), (twins(table, &mut other), other));
+        assert!(bench.full.ends_with(&one));
+    }
+    let library = reading(tables.len(), |table, _| own(table, &mut one));
+    let twin = reading(tables.len(), |table, _| twins(table, &mut other));
+    scans.row("card, the last slot's", library, twin)
 }

@@ -105,6 +105,11 @@ impl Bench {
         self.queries.iter().map(radius).collect()
     }
 
+    /// All cards, for every record is used.
+    pub fn in_slot_order(&self) -> Vec<u32> {
+        parse_table(&self.full).iter().map(|record| record.card).collect()
+    }
+
     /// A card that is not stored.
     pub fn new_card(&self) -> u32 {
         1 + parse_table(&self.full).iter().map(|record| record.card).filter(|card| *card < u32::MAX).max().unwrap()

@@ -1,16 +1,18 @@
-//! The library's five functions behind one trait, so that a wrong library can be put in its place: as they are, and
+//! The library's functions behind one trait, so that a wrong library can be put in its place: as they are, and
 //! through the wrapper's typed calls.
 
 use model::index::Search;
 use plotvuga::{library, Kind, Refusal, Signature};
 
-/// The five functions: each returns the refusal number and sets its counts.
+/// The functions: each returns the refusal number and sets its counts.
 pub trait Doors {
     fn clear(&mut self, table: &mut [u8]) -> u32;
     fn insert(&mut self, table: &mut [u8], card: u32, kind: u8, arity: u8, signature: &[u8], count: &mut u32) -> u32;
     fn delete(&mut self, table: &mut [u8], card: u32, arity: u8, count: &mut u32) -> u32;
     fn search(&mut self, table: &[u8], lent: Search, count: &mut u32, found: &mut u32) -> u32;
     fn check(&mut self, table: &[u8]) -> u32;
+    fn cards(&mut self, table: &[u8], list: &mut [u32], found: &mut u32) -> u32;
+    fn card(&mut self, table: &[u8], card: u32, row: &mut [u8], kind: &mut u8) -> u32;
 }
 
 /// The linked library.
@@ -36,6 +38,14 @@ impl Doors for Linked {
 
     fn check(&mut self, table: &[u8]) -> u32 {
         library::check(table)
+    }
+
+    fn cards(&mut self, table: &[u8], list: &mut [u32], found: &mut u32) -> u32 {
+        library::cards(table, list, found)
+    }
+
+    fn card(&mut self, table: &[u8], card: u32, row: &mut [u8], kind: &mut u8) -> u32 {
+        library::card(table, card, row, kind)
     }
 }
 
@@ -85,5 +95,13 @@ impl Doors for Typed {
 
     fn check(&mut self, table: &[u8]) -> u32 {
         number(plotvuga::check(table))
+    }
+
+    fn cards(&mut self, table: &[u8], list: &mut [u32], found: &mut u32) -> u32 {
+        Linked.cards(table, list, found)
+    }
+
+    fn card(&mut self, table: &[u8], card: u32, row: &mut [u8], kind: &mut u8) -> u32 {
+        Linked.card(table, card, row, kind)
     }
 }

@@ -1,8 +1,10 @@
 //! The paper's listing, its edges to try and its errors that look right, by name, each with the answers that the paper
 //! gives or that were worked out by hand. Every call is held against the model as well.
 
+mod stored;
+
 use crate::starts::{inserted, reading, with_timestamp};
-use model::history::{Command, History};
+use model::history::{Command, History, Lent};
 use model::index::Answer;
 use model::record::RECORD;
 use model::refusal::{ABSENT, ARGUMENT, CLOCK, DONE, FULL, KIND, LOOSE, SHORT, SIZE, TABLE, TWICE};
@@ -11,7 +13,15 @@ use model::refusal::{ABSENT, ARGUMENT, CLOCK, DONE, FULL, KIND, LOOSE, SHORT, SI
 pub struct Edge {
     pub name: String,
     start: Vec<u8>,
-    steps: Vec<(Command, Answer, Vec<u32>)>,
+    steps: Vec<Step>,
+}
+
+/// A call with the answer that it must have, and what it must write from the start of its list and of its row. What
+/// stands after that must stay.
+pub struct Step {
+    pub command: Command,
+    pub answer: Answer,
+    pub written: Lent,
 }
 
 impl Edge {
@@ -20,19 +30,19 @@ impl Edge {
     }
 
     pub fn history(&self) -> History {
-        History { start: self.start.clone(), commands: self.steps.iter().map(|step| step.0.clone()).collect() }
+        History { start: self.start.clone(), commands: self.steps.iter().map(|step| step.command.clone()).collect() }
     }
 
-    /// The answers and the cards listed, one for each call.
-    pub fn answers(&self) -> impl Iterator<Item = (Answer, &[u32])> {
-        self.steps.iter().map(|step| (step.1, step.2.as_slice()))
+    pub fn steps(&self) -> &[Step] {
+        &self.steps
     }
 
     // ---- calls ----
 
     fn step(mut self, command: Command, refusal: u32, count: u32, cards: &[u32]) -> Edge {
-        let answer = Answer { refusal, count, found: cards.len() as u32 };
-        self.steps.push((command, answer, cards.to_vec()));
+        let answer = Answer { refusal, count, found: cards.len() as u32, kind: 0 };
+        let written = Lent { list: cards.to_vec(), row: Vec::new() };
+        self.steps.push(Step { command, answer, written });
         self
     }
 
@@ -81,6 +91,7 @@ pub fn all() -> Vec<Edge> {
     edges.extend(order_of_refusals());
     edges.extend(walks());
     edges.extend(errors_that_look_right());
+    edges.extend(stored::all());
     edges
 }
 
@@ -149,8 +160,16 @@ fn arities() -> Vec<Edge> {
     for card in 1..=16 {
         chain = chain.insert(card, (card * 37 % 11) as u16, 1, DONE, card - 1);
     }
+    // Each card has a reading of its own, so that it is nearer to the root than to any other.
+    let mut star = Edge::new("arity 8 takes eight children, and the ninth goes below the oldest", vec![0; 10 * RECORD]);
+    star = star.insert_of(1, 1, &[0; 32], 8, DONE, 0);
+    for card in 2..=10 {
+        let mut own = [0; 32];
+        own[2 * card as usize] = 1;
+        star = star.insert_of(card, 1, &own, 8, DONE, card - 1);
+    }
     let later = Edge::new("a record with more children than a later arity takes no more", after_line_6());
-    vec![wrong, chain, later.insert(17, 50, 1, DONE, 5)]
+    vec![wrong, chain, star, later.insert(17, 50, 1, DONE, 5)]
 }
 
 // ---- timestamps near the last ----

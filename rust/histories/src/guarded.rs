@@ -1,12 +1,12 @@
 //! The doors as an index, with everything lent at any address between guards: a write beside what was lent, a write to
-//! what was lent to be read, or a count that was not set is seen.
+//! what was lent to be read, or a count or a kind that was not set is seen.
 
 use crate::doors::Doors;
 use model::index::{Answer, Index, Search};
 
 /// Guards on either side, in entries.
 const GUARD: usize = 48;
-/// What a count holds before the call.
+/// What a count holds before the call, and a kind in its one byte.
 const NOT_SET: u32 = u32::MAX;
 /// The refusal that stands for a broken promise; no call returns it.
 const BROKEN: u32 = u32::MAX;
@@ -81,7 +81,9 @@ const TABLE_READ: &str = "the table was lent to be read and was written";
 const SIGNATURE_GUARDS: &str = "bytes beside the signature were written";
 const SIGNATURE_READ: &str = "the signature was written";
 const LIST_GUARDS: &str = "entries beside the list were written";
+const ROW_GUARDS: &str = "bytes beside the row were written";
 const COUNT_GUARDS: &str = "entries beside a count were written";
+const KIND_GUARDS: &str = "bytes beside the kind were written";
 
 impl<D: Doors> Index for Guarded<D> {
     fn clear(&mut self, table: &mut [u8]) -> Answer {
@@ -104,7 +106,7 @@ impl<D: Doors> Index for Guarded<D> {
             (query.is_still(signature), SIGNATURE_READ),
             (counts.guards_hold(), COUNT_GUARDS),
         ];
-        self.told(Answer { refusal, count: counts.content()[0], found: 0 }, &promises)
+        self.told(Answer { count: counts.content()[0], ..Answer::refused(refusal) }, &promises)
     }
 
     fn delete(&mut self, table: &mut [u8], card: u32, arity: u8) -> Answer {
@@ -113,7 +115,7 @@ impl<D: Doors> Index for Guarded<D> {
         let refusal = self.doors.delete(lent.content_mut(), card, arity, &mut counts.content_mut()[0]);
         table.copy_from_slice(lent.content());
         let promises = [(lent.guards_hold(), TABLE_GUARDS), (counts.guards_hold(), COUNT_GUARDS)];
-        self.told(Answer { refusal, count: counts.content()[0], found: 0 }, &promises)
+        self.told(Answer { count: counts.content()[0], ..Answer::refused(refusal) }, &promises)
     }
 
     fn search(&mut self, table: &[u8], lent: Search) -> Answer {
@@ -133,7 +135,8 @@ impl<D: Doors> Index for Guarded<D> {
             (cards.guards_hold(), LIST_GUARDS),
             (counts.guards_hold() && founds.guards_hold(), COUNT_GUARDS),
         ];
-        self.told(Answer { refusal, count: counts.content()[0], found: founds.content()[0] }, &promises)
+        let (count, found) = (counts.content()[0], founds.content()[0]);
+        self.told(Answer { count, found, ..Answer::refused(refusal) }, &promises)
     }
 
     fn check(&mut self, table: &[u8]) -> Answer {
@@ -141,5 +144,36 @@ impl<D: Doors> Index for Guarded<D> {
         let refusal = self.doors.check(lent.content());
         let promises = [(lent.guards_hold(), TABLE_GUARDS), (lent.is_still(table), TABLE_READ)];
         self.told(Answer::refused(refusal), &promises)
+    }
+
+    fn cards(&mut self, table: &[u8], list: &mut [u32]) -> Answer {
+        let bytes = Lent::new(table, self.shift(), 0xa5);
+        let mut cards = Lent::new(list, self.shift(), 0xfeed);
+        let mut founds = Lent::new(&[NOT_SET], 0, 0xc0de);
+        let refusal = self.doors.cards(bytes.content(), cards.content_mut(), &mut founds.content_mut()[0]);
+        list.copy_from_slice(cards.content());
+        let promises = [
+            (bytes.guards_hold(), TABLE_GUARDS),
+            (bytes.is_still(table), TABLE_READ),
+            (cards.guards_hold(), LIST_GUARDS),
+            (founds.guards_hold(), COUNT_GUARDS),
+        ];
+        self.told(Answer { found: founds.content()[0], ..Answer::refused(refusal) }, &promises)
+    }
+
+    fn card(&mut self, table: &[u8], card: u32, row: &mut [u8]) -> Answer {
+        let bytes = Lent::new(table, self.shift(), 0xa5);
+        let mut signature = Lent::new(row, self.shift(), 0x5a);
+        let mut kinds = Lent::new(&[NOT_SET as u8], self.shift(), 0xc0);
+        let kind = &mut kinds.content_mut()[0];
+        let refusal = self.doors.card(bytes.content(), card, signature.content_mut(), kind);
+        row.copy_from_slice(signature.content());
+        let promises = [
+            (bytes.guards_hold(), TABLE_GUARDS),
+            (bytes.is_still(table), TABLE_READ),
+            (signature.guards_hold(), ROW_GUARDS),
+            (kinds.guards_hold(), KIND_GUARDS),
+        ];
+        self.told(Answer { kind: kinds.content()[0], ..Answer::refused(refusal) }, &promises)
     }
 }

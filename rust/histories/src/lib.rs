@@ -1,5 +1,5 @@
-//! The proved library against the independent model: the paper's edges by name, and many random histories. Everything
-//! lent to the library stands between guard bytes, and the counts are lent full of ones.
+//! The proved library against the independent model: edges by name, and many random histories. Everything lent to the
+//! library stands between guard bytes, and counts and kinds are lent full of ones.
 
 pub mod doors;
 pub mod edges;

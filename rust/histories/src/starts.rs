@@ -4,7 +4,7 @@ use model::calls::Model;
 use model::distance::Signature;
 use model::index::Index;
 use model::random::Random;
-use model::record::{parse_table, table_bytes, Record, RECORD};
+use model::record::{parse_table, table_bytes, Record, NO_SLOT, RECORD};
 use model::signature::{Flavour, Source};
 
 /// Kind 1 with reading 0 as given and the others 0.
@@ -21,6 +21,23 @@ pub fn inserted(records: usize, cards: &[(u32, u16)], arity: u8) -> Vec<u8> {
         assert_eq!(Model.insert(&mut table, *card, 1, &reading(*value), arity).refusal, 0);
     }
     table
+}
+
+/// A full table that is a chain down the slots: cards and timestamps count from 1, and so do the readings 0 of kind 1.
+pub fn chain(records: usize) -> Vec<u8> {
+    let mut row = vec![Record::free(); records];
+    for (slot, record) in row.iter_mut().enumerate() {
+        let number = slot + 1;
+        record.card = number as u32;
+        record.timestamp = number as u32;
+        record.radius = (records - number) as u32;
+        record.parent = if slot == 0 { NO_SLOT } else { slot as u16 - 1 };
+        record.kind = 1;
+        record.signature = reading(number as u16);
+        let child = [number as u16];
+        record.set_children(if number < records { &child } else { &[] });
+    }
+    table_bytes(&row)
 }
 
 /// A table with so many used records, inserted by the model.

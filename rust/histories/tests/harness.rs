@@ -28,9 +28,26 @@ enum Slip {
     ArityCut,
     /// A list as long as the stored cards is refused.
     ShortByOne,
+    // At the door that tells all cards.
+    CardsFoundNotSet,
+    CardsPastList,
+    CardsLaterEntries,
+    CardsWriteTable,
+    /// The last two change places.
+    CardsOutOfOrder,
+    // At the door that tells what one card was stored with.
+    CardKindNotSet,
+    CardKindZero,
+    CardPastRow,
+    CardLaterBytes,
+    CardWritesTable,
+    /// A row as long as a signature is refused.
+    CardShortByOne,
+    /// A short row is refused before an absent card is.
+    CardShortFirst,
 }
 
-const ALL: [Slip; 11] = [
+const ALL: [Slip; 23] = [
     Slip::CountNotSet,
     Slip::FoundNotSet,
     Slip::PastList,
@@ -42,6 +59,18 @@ const ALL: [Slip; 11] = [
     Slip::CountShort,
     Slip::ArityCut,
     Slip::ShortByOne,
+    Slip::CardsFoundNotSet,
+    Slip::CardsPastList,
+    Slip::CardsLaterEntries,
+    Slip::CardsWriteTable,
+    Slip::CardsOutOfOrder,
+    Slip::CardKindNotSet,
+    Slip::CardKindZero,
+    Slip::CardPastRow,
+    Slip::CardLaterBytes,
+    Slip::CardWritesTable,
+    Slip::CardShortByOne,
+    Slip::CardShortFirst,
 ];
 
 struct Wrong(Slip);
@@ -105,6 +134,41 @@ impl Doors for Wrong {
         }
         Linked.check(table)
     }
+
+    fn cards(&mut self, table: &[u8], list: &mut [u32], found: &mut u32) -> u32 {
+        let before = *found;
+        let refusal = Linked.cards(table, list, found);
+        let many = *found as usize;
+        match self.0 {
+            Slip::CardsFoundNotSet if refusal != 0 => *found = before,
+            Slip::CardsPastList => write(list.as_ptr().wrapping_add(list.len()), 0),
+            Slip::CardsLaterEntries if refusal == 0 => list[many..].fill(0),
+            Slip::CardsWriteTable if refusal == 0 => write(table.as_ptr(), !table[0]),
+            Slip::CardsOutOfOrder if many > 1 => list.swap(many - 2, many - 1),
+            _ => {}
+        }
+        refusal
+    }
+
+    fn card(&mut self, table: &[u8], card: u32, row: &mut [u8], kind: &mut u8) -> u32 {
+        let (before, row_before) = (*kind, row.to_vec());
+        let refusal = Linked.card(table, card, row, kind);
+        match self.0 {
+            Slip::CardKindNotSet if refusal != 0 => *kind = before,
+            Slip::CardKindZero => *kind = 0,
+            Slip::CardPastRow => write(row.as_ptr().wrapping_add(row.len()), 0),
+            Slip::CardLaterBytes if refusal == 0 => row[32..].fill(0),
+            Slip::CardWritesTable if refusal == 0 => write(table.as_ptr(), !table[0]),
+            Slip::CardShortByOne if refusal == 0 && row.len() == 32 => {
+                row.copy_from_slice(&row_before);
+                *kind = 0;
+                return 9;
+            }
+            Slip::CardShortFirst if refusal == 6 && row.len() < 32 => return 9,
+            _ => {}
+        }
+        refusal
+    }
 }
 
 fn lines(run: impl FnOnce(&mut dyn FnMut(&str)) -> Report) -> (Report, String) {
@@ -118,7 +182,8 @@ fn a_right_library_passes_and_the_same_seed_gives_the_same() {
     let run = |seed| lines(|print| run_all(Linked, Linked, seed, 1, print));
     let (report, text) = run(5);
     assert_eq!(report.failed, 0, "{text}");
-    assert!(report.tally.calls > 2000 && report.tally.refusals.iter().all(|times| *times > 0), "{}", report.calls());
+    assert!(report.tally.calls > 2000 && report.tally.told > 200, "{}", report.calls());
+    assert!(report.tally.not_met().is_empty(), "{:?}", report.tally.not_met());
     assert_eq!(run(5).1, text);
     assert_ne!(run(6).1, text);
 }

@@ -1,8 +1,10 @@
-//! The five calls: refusals in the paper's order, then the work on a tree of the table, then the table's bytes again.
+//! The calls: refusals in the paper's order, then the work on a tree of the table, then the table's bytes again. The
+//! two that tell what is stored go beyond the paper and only read its records.
 
-use crate::distance::{Signature, FAULT_BITS, READINGS};
+use crate::distance::{Signature, FAULT_BITS, READINGS, SIGNATURE};
 use crate::index::{Answer, Index, Search};
 use crate::judge::{judge, size_is_right, Verdict};
+use crate::record::{parse_table, Record};
 use crate::refusal::{ABSENT, ARGUMENT, CLOCK, DONE, FULL, KIND, LOOSE, SHORT, SIZE, TABLE, TWICE};
 use crate::soundness::sound;
 use crate::tree::Tree;
@@ -12,7 +14,7 @@ use crate::tree::Tree;
 pub struct Model;
 
 impl Model {
-    /// The cards of a well-formed table.
+    /// The cards of a well-formed table, a parent before its children.
     pub fn cards(table: &[u8]) -> Vec<u32> {
         Tree::of(table).nodes().iter().map(|node| node.card).collect()
     }
@@ -59,7 +61,7 @@ fn insert(table: &mut [u8], card: u32, kind: u8, signature: &[u8], arity: u8) ->
     tree.kind = kind;
     let count = tree.insert(slot, card, signature, usize::from(arity));
     table.copy_from_slice(&tree.bytes());
-    Ok(Answer { refusal: DONE, count, found: 0 })
+    Ok(Answer { count, ..Answer::refused(DONE) })
 }
 
 fn delete(table: &mut [u8], card: u32, arity: u8) -> Result<Answer, u32> {
@@ -71,7 +73,7 @@ fn delete(table: &mut [u8], card: u32, arity: u8) -> Result<Answer, u32> {
     demand(u64::from(staying.largest_timestamp()) + m as u64 <= u64::from(u32::MAX), CLOCK)?;
     let count = tree.delete(card, usize::from(arity));
     table.copy_from_slice(&tree.bytes());
-    Ok(Answer { refusal: DONE, count, found: 0 })
+    Ok(Answer { count, ..Answer::refused(DONE) })
 }
 
 fn search(table: &[u8], lent: Search) -> Result<Answer, u32> {
@@ -82,13 +84,31 @@ fn search(table: &[u8], lent: Search) -> Result<Answer, u32> {
     demand(lent.list.len() >= tree.nodes().len(), SHORT)?;
     let walk = tree.search(&query, lent.radius);
     lent.list[..walk.listed.len()].copy_from_slice(&walk.listed);
-    Ok(Answer { refusal: DONE, count: tree.compared(&walk), found: walk.listed.len() as u32 })
+    Ok(Answer { count: tree.compared(&walk), found: walk.listed.len() as u32, ..Answer::refused(DONE) })
 }
 
 fn check(table: &[u8]) -> Result<Answer, u32> {
     let tree = admit(table)?;
     demand(sound(&tree), LOOSE)?;
     Ok(Answer::refused(DONE))
+}
+
+fn cards(table: &[u8], list: &mut [u32]) -> Result<Answer, u32> {
+    admit(table)?;
+    let stored: Vec<u32> = parse_table(table).iter().filter(|record| record.used()).map(|record| record.card).collect();
+    demand(list.len() >= stored.len(), SHORT)?;
+    list[..stored.len()].copy_from_slice(&stored);
+    Ok(Answer { found: stored.len() as u32, ..Answer::refused(DONE) })
+}
+
+fn card(table: &[u8], card: u32, row: &mut [u8]) -> Result<Answer, u32> {
+    admit(table)?;
+    demand(card != 0, ARGUMENT)?;
+    let named = |record: &Record| record.card == card;
+    let record = parse_table(table).into_iter().find(named).ok_or(ABSENT)?;
+    demand(row.len() >= SIGNATURE, SHORT)?;
+    row[..SIGNATURE].copy_from_slice(&record.signature);
+    Ok(Answer { kind: record.kind, ..Answer::refused(DONE) })
 }
 
 impl Index for Model {
@@ -114,5 +134,13 @@ impl Index for Model {
 
     fn check(&mut self, table: &[u8]) -> Answer {
         check(table).unwrap_or_else(Answer::refused)
+    }
+
+    fn cards(&mut self, table: &[u8], list: &mut [u32]) -> Answer {
+        cards(table, list).unwrap_or_else(Answer::refused)
+    }
+
+    fn card(&mut self, table: &[u8], named: u32, row: &mut [u8]) -> Answer {
+        card(table, named, row).unwrap_or_else(Answer::refused)
     }
 }

@@ -1,4 +1,4 @@
-//! What an index over a lent table offers: the five calls, each answering with its refusal and its counts.
+//! What an index over a lent table offers: its calls, each answering with its refusal and its counts.
 
 /// What a search is lent besides its table. Kind and signature stand as the caller gave them, right or wrong.
 #[derive(Debug)]
@@ -10,7 +10,7 @@ pub struct Search<'a> {
     pub list: &'a mut [u32],
 }
 
-/// What a call returns. Counts are 0 where the call reports none, and in every refusal.
+/// What a call returns. Counts and kind are 0 where the call reports none, and in every refusal.
 #[derive(Clone, Copy, Debug, Default, PartialEq, Eq)]
 pub struct Answer {
     pub refusal: u32,
@@ -18,12 +18,14 @@ pub struct Answer {
     pub count: u32,
     /// The number of cards listed.
     pub found: u32,
+    /// The kind that a card was stored with.
+    pub kind: u8,
 }
 
 impl Answer {
     /// A refusal, or done where the call counts nothing.
     pub fn refused(refusal: u32) -> Answer {
-        Answer { refusal, count: 0, found: 0 }
+        Answer { refusal, ..Answer::default() }
     }
 }
 
@@ -33,4 +35,8 @@ pub trait Index {
     fn delete(&mut self, table: &mut [u8], card: u32, arity: u8) -> Answer;
     fn search(&mut self, table: &[u8], lent: Search) -> Answer;
     fn check(&mut self, table: &[u8]) -> Answer;
+    /// All stored cards in slot order, from the list's start.
+    fn cards(&mut self, table: &[u8], list: &mut [u32]) -> Answer;
+    /// What one card was stored with: its kind, and its signature from the row's start.
+    fn card(&mut self, table: &[u8], card: u32, row: &mut [u8]) -> Answer;
 }

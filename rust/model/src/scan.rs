@@ -1,5 +1,5 @@
-//! The stored cards as the accepted calls tell them, and the plain scan: which of them lie within a radius. It never
-//! looks at a table, so a card that a table lost or changed is missed here.
+//! The stored cards as the accepted calls tell them, their slots, and the plain scan: which of them lie within a
+//! radius. It never looks at a table, so a card that a table lost or changed is missed here.
 
 use crate::distance::{distance, Signature};
 use std::collections::{BTreeMap, BTreeSet};
@@ -8,21 +8,29 @@ use std::collections::{BTreeMap, BTreeSet};
 #[derive(Clone, Debug, Default)]
 pub struct Stored {
     cards: BTreeMap<u32, (u8, Signature)>,
+    /// The card of each slot, none where it is free again. A card put back keeps its slot.
+    slots: Vec<Option<u32>>,
 }
 
 impl Stored {
     pub fn insert(&mut self, card: u32, kind: u8, signature: Signature) {
         let before = self.cards.insert(card, (kind, signature));
         assert!(before.is_none(), "card {card} was accepted twice");
+        match self.slots.iter_mut().find(|slot| slot.is_none()) {
+            Some(lowest_free) => *lowest_free = Some(card),
+            None => self.slots.push(Some(card)),
+        }
     }
 
     pub fn delete(&mut self, card: u32) {
         let before = self.cards.remove(&card);
         assert!(before.is_some(), "card {card} was deleted but not stored");
+        self.slots.iter_mut().filter(|slot| **slot == Some(card)).for_each(|slot| *slot = None);
     }
 
     pub fn clear(&mut self) {
         self.cards.clear();
+        self.slots.clear();
     }
 
     pub fn len(&self) -> usize {
@@ -35,6 +43,15 @@ impl Stored {
 
     pub fn holds(&self, card: u32) -> bool {
         self.cards.contains_key(&card)
+    }
+
+    /// The kind and signature that the card was stored with.
+    pub fn card(&self, card: u32) -> Option<(u8, Signature)> {
+        self.cards.get(&card).copied()
+    }
+
+    pub fn in_slot_order(&self) -> Vec<u32> {
+        self.slots.iter().copied().flatten().collect()
     }
 
     pub fn within(&self, query: &Signature, radius: u32) -> BTreeSet<u32> {

@@ -1,5 +1,6 @@
 //! The model against the plain scan over many random histories: every search lists exactly the cards within the
-//! radius, every table that calls made is sound, and no refused call changes anything.
+//! radius, what is stored is told as the calls stored it, every table that calls made is sound, and no refused call
+//! changes anything.
 
 use model::calls::Model;
 use model::compare::{run, Tally};
@@ -11,7 +12,7 @@ use model::random::Random;
 use model::refusal::{DONE, LOOSE};
 
 #[test]
-fn searches_list_what_the_scan_finds() {
+fn searches_list_what_the_scan_finds_and_what_is_stored_is_told() {
     let mut random = Random::new(7);
     let mut tally = Tally::default();
     for _ in 0..400 {
@@ -22,7 +23,7 @@ fn searches_list_what_the_scan_finds() {
     }
     let large = history(&mut random, Manner::Fresh, 1024, 2500);
     tally.add(&run(&mut Model, &mut Model, &large).unwrap());
-    assert!(tally.scanned > 5000, "{tally:?}");
+    assert!(tally.scanned > 5000 && tally.told > 2000, "{tally:?}");
 }
 
 #[test]
@@ -30,8 +31,9 @@ fn histories_meet_every_refusal() {
     let mut random = Random::new(8);
     let mut tally = Tally::default();
     (0..300).for_each(|_| tally.add(&run(&mut Model, &mut Model, &any_history(&mut random)).unwrap()));
-    assert!(tally.refusals.iter().all(|times| *times > 10), "{tally:?}");
-    assert!(tally.refusals[DONE as usize] > tally.calls / 3, "{tally:?}");
+    assert!(tally.refusals().iter().all(|times| *times > 10), "{tally:?}");
+    assert!(tally.refusals()[DONE as usize] > tally.calls / 3, "{tally:?}");
+    assert!(tally.not_met().is_empty(), "{:?}", tally.not_met());
 }
 
 #[test]
@@ -41,13 +43,13 @@ fn a_refused_call_touches_nothing() {
         let history = any_history(&mut random);
         let mut table = history.start.clone();
         for command in &history.commands {
-            let (before, mut list) = (table.clone(), command.list());
-            let answer = command.make(&mut Model, &mut table, &mut list);
+            let (before, mut lent) = (table.clone(), command.lent());
+            let answer = command.make(&mut Model, &mut table, &mut lent);
             if answer.is_some_and(|answer| answer.refusal != DONE) {
                 let answer = answer.unwrap();
-                assert_eq!((answer.count, answer.found), (0, 0));
+                assert_eq!((answer.count, answer.found, answer.kind), (0, 0, 0));
                 assert_eq!(table, before);
-                assert_eq!(list, command.list());
+                assert_eq!(lent, command.lent());
             }
         }
     }

@@ -1,4 +1,4 @@
-//! The library's five functions as they are, over slices and numbers: each returns the refusal number, 0 for done, and
+//! The library's functions as they are, over slices and numbers: each returns the refusal number, 0 for done, and
 //! sets its counts. The calls at the crate's top are these with types. All of the crate's `unsafe` is here.
 
 extern "C" {
@@ -27,6 +27,15 @@ extern "C" {
         found: *mut u32,
     ) -> u32;
     fn plotvuga_check(table: *const u8, table_len: usize) -> u32;
+    fn plotvuga_cards(table: *const u8, table_len: usize, list: *mut u32, list_len: usize, found: *mut u32) -> u32;
+    fn plotvuga_card(
+        table: *const u8,
+        table_len: usize,
+        card: u32,
+        row: *mut u8,
+        row_len: usize,
+        kind: *mut u8,
+    ) -> u32;
 }
 
 // SAFETY, for every call below: each pointer and its length come from one slice or reference, which is borrowed until
@@ -61,4 +70,14 @@ pub fn search(
 
 pub fn check(table: &[u8]) -> u32 {
     unsafe { plotvuga_check(table.as_ptr(), table.len()) }
+}
+
+pub fn cards(table: &[u8], list: &mut [u32], found: &mut u32) -> u32 {
+    let (from, to) = (table.as_ptr(), list.as_mut_ptr());
+    unsafe { plotvuga_cards(from, table.len(), to, list.len(), found) }
+}
+
+pub fn card(table: &[u8], card: u32, row: &mut [u8], kind: &mut u8) -> u32 {
+    let (from, to) = (table.as_ptr(), row.as_mut_ptr());
+    unsafe { plotvuga_card(from, table.len(), card, to, row.len(), kind) }
 }

@@ -3,16 +3,26 @@
 use std::slice::{from_raw_parts, from_raw_parts_mut};
 use twin::{Answer, Search};
 
-/// Counts as the header has them: set by every call, to 0 in a refusal.
+/// Counts and kind as the header has them: set by every call, to 0 in a refusal.
 ///
 /// # Safety
-/// `count` can be written.
-unsafe fn told(answer: Answer, count: *mut u32) -> u32 {
+/// `to` can be written.
+unsafe fn told<T>(answer: Answer, to: *mut T, number: T) -> u32 {
     let refused = answer.refusal != 0;
     if !(cfg!(feature = "count_when_refused") && refused) {
-        unsafe { count.write(answer.count) };
+        unsafe { to.write(number) };
     }
     answer.refusal
+}
+
+/// One entry past a list that was filled, for the slip that writes there.
+///
+/// # Safety
+/// Under that slip, the entry after the list can be written.
+unsafe fn past(answer: Answer, list: *mut u32, list_len: usize) {
+    if cfg!(feature = "writes_past_list") && answer.refusal == 0 {
+        unsafe { list.add(list_len).write(0) };
+    }
 }
 
 /// # Safety
@@ -38,7 +48,8 @@ pub unsafe extern "C" fn plotvuga_insert(
     let (table, signature) =
         unsafe { (from_raw_parts_mut(table, table_len), from_raw_parts(signature, signature_len)) };
     let arity = if cfg!(feature = "arity_ignored") && (1..=8).contains(&arity) { 8 } else { arity };
-    unsafe { told(twin::insert(table, card, kind, signature, arity), count) }
+    let answer = twin::insert(table, card, kind, signature, arity);
+    unsafe { told(answer, count, answer.count) }
 }
 
 /// # Safety
@@ -51,7 +62,8 @@ pub unsafe extern "C" fn plotvuga_delete(
     arity: u8,
     count: *mut u32,
 ) -> u32 {
-    unsafe { told(twin::delete(from_raw_parts_mut(table, table_len), card, arity), count) }
+    let answer = twin::delete(unsafe { from_raw_parts_mut(table, table_len) }, card, arity);
+    unsafe { told(answer, count, answer.count) }
 }
 
 /// # Safety
@@ -72,11 +84,9 @@ pub unsafe extern "C" fn plotvuga_search(
     let (table, signature) = unsafe { (from_raw_parts(table, table_len), from_raw_parts(signature, signature_len)) };
     let lent = Search { kind, signature, radius, list: unsafe { from_raw_parts_mut(list, list_len) } };
     let answer = twin::search(table, lent);
-    if cfg!(feature = "writes_past_list") && answer.refusal == 0 {
-        unsafe { list.add(list_len).write(0) };
-    }
+    unsafe { past(answer, list, list_len) };
     unsafe { found.write(answer.found) };
-    unsafe { told(answer, count) }
+    unsafe { told(answer, count, answer.count) }
 }
 
 /// # Safety
@@ -84,4 +94,34 @@ pub unsafe extern "C" fn plotvuga_search(
 #[no_mangle]
 pub unsafe extern "C" fn plotvuga_check(table: *const u8, table_len: usize) -> u32 {
     twin::check(unsafe { from_raw_parts(table, table_len) }).refusal
+}
+
+/// # Safety
+/// As include/plotvuga.h has it.
+#[no_mangle]
+pub unsafe extern "C" fn plotvuga_cards(
+    table: *const u8,
+    table_len: usize,
+    list: *mut u32,
+    list_len: usize,
+    found: *mut u32,
+) -> u32 {
+    let answer = unsafe { twin::cards(from_raw_parts(table, table_len), from_raw_parts_mut(list, list_len)) };
+    unsafe { past(answer, list, list_len) };
+    unsafe { told(answer, found, answer.found) }
+}
+
+/// # Safety
+/// As include/plotvuga.h has it.
+#[no_mangle]
+pub unsafe extern "C" fn plotvuga_card(
+    table: *const u8,
+    table_len: usize,
+    card: u32,
+    row: *mut u8,
+    row_len: usize,
+    kind: *mut u8,
+) -> u32 {
+    let answer = unsafe { twin::card(from_raw_parts(table, table_len), card, from_raw_parts_mut(row, row_len)) };
+    unsafe { told(answer, kind, answer.kind) }
 }

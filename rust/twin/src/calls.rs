@@ -62,7 +62,7 @@ fn try_insert(table: &mut [u8], new: u32, kind: u8, signature: &[u8], arity: u8)
     } else {
         place(table, survey.root, slot, kind, usize::from(arity), fresh)
     };
-    Ok(Answer { refusal: DONE, count, found: 0 })
+    Ok(Answer { count, ..Answer::refused(DONE) })
 }
 
 pub fn delete(table: &mut [u8], old: u32, arity: u8) -> Answer {
@@ -101,7 +101,7 @@ fn try_delete(table: &mut [u8], old: u32, arity: u8) -> Result<Answer, u32> {
             Some(root) => count += place(table, root, slot, survey.kind, usize::from(arity), fresh),
         }
     }
-    Ok(Answer { refusal: DONE, count, found: 0 })
+    Ok(Answer { count, ..Answer::refused(DONE) })
 }
 
 /// All below the card, each with its age, in a list that is walked while it grows. By slot, the card and all below it
@@ -170,5 +170,5 @@ fn try_search(table: &[u8], lent: Search) -> Result<Answer, u32> {
     let mut walk = Walk { table: records(table), kind, query, r, list, found: 0, compared: 1 };
     let here = walk.far(survey.root);
     walk.visit(survey.root, here, u64::MAX);
-    Ok(Answer { refusal: DONE, count: walk.compared, found: walk.found as u32 })
+    Ok(Answer { count: walk.compared, found: walk.found as u32, ..Answer::refused(DONE) })
 }

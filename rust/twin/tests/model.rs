@@ -30,6 +30,14 @@ impl Index for Twin {
     fn check(&mut self, table: &[u8]) -> Answer {
         twin::check(table)
     }
+
+    fn cards(&mut self, table: &[u8], list: &mut [u32]) -> Answer {
+        twin::cards(table, list)
+    }
+
+    fn card(&mut self, table: &[u8], card: u32, row: &mut [u8]) -> Answer {
+        twin::card(table, card, row)
+    }
 }
 
 #[test]
@@ -42,7 +50,8 @@ fn the_twin_does_what_the_model_does() {
             Err(failure) => panic!("{failure}"),
         }
     }
-    assert!(tally.refusals.iter().all(|times| *times > 10), "{tally:?}");
+    assert!(tally.refusals().iter().all(|times| *times > 10), "{tally:?}");
+    assert!(tally.not_met().is_empty(), "{:?}", tally.not_met());
     let large = history(&mut random, Manner::Fresh, 1024, 400);
     compare(&mut Twin, &mut Model, &large).unwrap_or_else(|failure| panic!("{failure}"));
 }

@@ -1,4 +1,4 @@
-//! Histories by their arguments: lists of every length, and all arguments at and beside their ends.
+//! Histories by their arguments: lists and rows of every length, and all arguments at and beside their ends.
 
 use super::author::Author;
 use super::damaged::small_table;
@@ -20,7 +20,23 @@ pub fn lists(random: &mut Random, _: usize) -> History {
     for places in [0, 1, many / 2, many.saturating_sub(1), many, many + 1, many + 300] {
         let Command::Search { kind, signature, .. } = author.search(random) else { unreachable!() };
         let radius = random.pick(&[0, u32::MAX, 1 << 20]);
-        commands.push(Command::Search { kind, signature, radius, places });
+        commands.extend([Command::Search { kind, signature, radius, places }, Command::Cards { places }]);
+    }
+    History { start, commands }
+}
+
+/// The cards of the first and the last slot and of some between, and those beside them, into rows of every length. A
+/// free slot's card is 0.
+pub fn rows(random: &mut Random, _: usize) -> History {
+    let start = small_table(random);
+    let records = parse_table(&start);
+    let mut slots = vec![0, records.len() - 1];
+    slots.extend((0..8).map(|_| random.below(records.len())));
+    let mut commands = vec![Command::Cards { places: used(&start) }];
+    for slot in slots {
+        for card in [records[slot].card, records[slot].card.wrapping_add(1)] {
+            commands.push(Command::Card { card, row: random.pick(&[0, 16, 31, 32, 32, 32, 33, 64, 300]) });
+        }
     }
     History { start, commands }
 }
@@ -45,7 +61,20 @@ pub fn arguments(random: &mut Random, round: usize) -> History {
             commands.push(Command::Delete { card, arity });
         }
     }
+    questions(&mut commands, stored);
     History { start, commands }
+}
+
+/// What is stored, with lists and rows of every length at and beside the ends.
+fn questions(commands: &mut Vec<Command>, stored: u32) {
+    for places in [0, 1, RECORDS - 2, RECORDS - 1, RECORDS, RECORDS + 1] {
+        commands.push(Command::Cards { places });
+    }
+    for card in [0, stored, u32::MAX] {
+        for row in [0, 1, 31, 32, 33, 64] {
+            commands.push(Command::Card { card, row });
+        }
+    }
 }
 
 /// A table of one sort: free, of either kind, full, at the last timestamp, or not well formed.

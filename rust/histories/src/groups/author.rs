@@ -1,8 +1,8 @@
 //! The author of these histories: draws calls that fit the table that they are made on.
 
-use crate::starts::{some_card, Role};
+use crate::starts::{some_card, used, Role};
 use model::calls::Model;
-use model::history::Command;
+use model::history::{Command, Lent};
 use model::random::Random;
 use model::record::{parse_table, RECORD};
 use model::signature::Source;
@@ -45,7 +45,7 @@ impl Author {
 
     fn made(&mut self, command: Command) -> Command {
         if self.follows {
-            command.make(&mut Model, &mut self.table, &mut []);
+            command.make(&mut Model, &mut self.table, &mut Lent::default());
         }
         command
     }
@@ -69,5 +69,19 @@ impl Author {
         let radius = if random.percent(30) { random.pick(&ends) } else { random.pick(&drawn) } as u32;
         let places = self.table.len() / RECORD + random.below(3);
         Command::Search { kind: self.kind, signature: self.signature(random), radius, places }
+    }
+
+    /// All cards, into a list that is long enough or just about.
+    pub fn cards(&mut self, random: &mut Random) -> Command {
+        let stored = used(&self.table);
+        let places = random.pick(&[stored, stored, stored + 1, stored + 9, stored.saturating_sub(1)]);
+        Command::Cards { places }
+    }
+
+    /// A stored card mostly, and otherwise any.
+    pub fn card(&mut self, random: &mut Random) -> Command {
+        let stored = some_card(random, &self.table, Role::Any).filter(|_| random.percent(85));
+        let row = random.pick(&[0, 31, 32, 32, 32, 33, 40]);
+        Command::Card { card: stored.unwrap_or_else(|| random.number()), row }
     }
 }

@@ -47,9 +47,14 @@ fn every_call(random: &mut Random, start: Vec<u8>) -> History {
         Command::Insert { card: 0, kind: 9, signature: vec![1; 5], arity: 0 },
         Command::Search { kind: 0, signature: vec![], radius: 0, places: 0 },
         Command::Delete { card: 0, arity: 0 },
+        Command::Cards { places: start.len() / RECORD },
+        Command::Cards { places: 0 },
+        Command::Card { card: stored, row: 32 },
+        Command::Card { card: 0, row: 0 },
     ];
     random.shuffle(&mut commands);
     commands.extend([Command::Clear, author.insert(random), author.search(random)]);
+    commands.extend([Command::Cards { places: 1 }, Command::Card { card: stored, row: 32 }]);
     History { start, commands }
 }
 
@@ -63,6 +68,7 @@ pub fn loosened(random: &mut Random, _: usize) -> History {
         commands.extend([author.search(random), author.insert(random)]);
         let role = random.pick(&Role::ALL);
         commands.extend(author.delete(random, role));
+        commands.extend([author.cards(random), author.card(random)]);
     }
     commands.push(Command::Check);
     History { start, commands }

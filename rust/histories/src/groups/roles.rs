@@ -27,10 +27,11 @@ fn by_role(random: &mut Random, records: usize, deletes: usize) -> History {
     for _ in 0..deletes {
         let role = random.pick(&Role::ALL);
         commands.extend(author.delete(random, role));
-        commands.push(author.search(random));
+        commands.extend([author.search(random), author.cards(random)]);
         if random.percent(60) {
             commands.push(author.insert(random));
         }
+        commands.push(author.card(random));
     }
     commands.push(Command::Check);
     History { start, commands }
@@ -46,11 +47,11 @@ pub fn down_to_free(random: &mut Random, _: usize) -> History {
     while used(&author.table) > 0 {
         let role = random.pick(&Role::ALL);
         commands.extend(author.delete(random, role));
-        commands.extend([author.search(random), Command::Check]);
+        commands.extend([author.search(random), author.cards(random), author.card(random), Command::Check]);
     }
     // The single card that was left stood as root; the table is free again and takes the other kind.
     author.kind = 3 - kind;
     author.source = Source::any_flavour(random, author.kind);
-    commands.extend([author.insert(random), author.search(random)]);
+    commands.extend([author.insert(random), author.search(random), author.cards(random), author.card(random)]);
     History { start, commands }
 }

@@ -2,10 +2,10 @@
 
 use super::{DEFAULT_AMOUNT, GROUPS};
 use crate::doors::Doors;
-use crate::edges;
+use crate::edges::{self, Step};
 use crate::guarded::Guarded;
 use model::calls::Model;
-use model::compare::{compare, run, Tally};
+use model::compare::{compare, run, same, Tally};
 use model::history::History;
 use model::random::Random;
 use model::refusal::name;
@@ -25,10 +25,11 @@ impl Report {
     /// How many calls were compared, by refusal.
     pub fn calls(&self) -> String {
         let mut text = format!("{} calls compared", self.tally.calls);
-        for (refusal, times) in self.tally.refusals.iter().enumerate() {
+        for (refusal, times) in self.tally.refusals().iter().enumerate() {
             text += &format!("{} {times} {}", if refusal == 0 { ":" } else { "," }, name(refusal as u32));
         }
-        text + &format!("; {} searches held against a plain scan as well", self.tally.scanned)
+        text += &format!("; {} searches held against a plain scan as well", self.tally.scanned);
+        text + &format!(", and {} answers what is stored against what the calls stored", self.tally.told)
     }
 }
 
@@ -130,17 +131,25 @@ fn compared<D: Doors>(index: &mut Guarded<D>, history: &History, shown: bool) ->
     })
 }
 
-/// The first call of an edge whose answer or cards are not those worked out by hand.
+/// The first call of an edge whose answer, list or row is not the one worked out by hand.
 fn first_wrong<D: Doors>(index: &mut Guarded<D>, edge: &edges::Edge) -> Option<String> {
     let history = edge.history();
     let mut table = history.start.clone();
-    for (command, (answer, cards)) in history.commands.iter().zip(edge.answers()) {
-        let mut list = command.list();
-        let own = command.make(index, &mut table, &mut list);
-        let listed = list.get(..cards.len()).unwrap_or_default();
-        if own != Some(answer) || listed != cards {
-            return Some(format!("{command}\n{own:?} {listed:?}\nand not {answer:?} {cards:?}"));
+    for Step { command, answer, written } in edge.steps() {
+        let (mut lent, before) = (command.lent(), command.lent());
+        let own = command.make(index, &mut table, &mut lent);
+        if own != Some(*answer) {
+            return Some(format!("{command}\n{own:?}\nand not {answer:?}"));
+        }
+        let list = same("list entry", &lent.list, &over(&before.list, &written.list));
+        if let Err(what) = list.and(same("row byte", &lent.row, &over(&before.row, &written.row))) {
+            return Some(format!("{command}\n{what}"));
         }
     }
     None
+}
+
+/// What was lent, with this written over its start.
+fn over<T: Copy>(before: &[T], written: &[T]) -> Vec<T> {
+    [written, before.get(written.len()..).unwrap_or_default()].concat()
 }

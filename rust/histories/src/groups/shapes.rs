@@ -18,7 +18,7 @@ pub fn one_signature(random: &mut Random, _: usize) -> History {
     for _ in 0..10 {
         let role = random.pick(&Role::ALL);
         commands.extend(author.delete(random, role));
-        commands.extend([author.search(random), author.insert(random)]);
+        commands.extend([author.search(random), author.cards(random), author.card(random), author.insert(random)]);
     }
     History { start, commands }
 }
@@ -59,9 +59,10 @@ pub fn late(random: &mut Random, _: usize) -> History {
     let mut author = Author::on(random, &start, kind);
     let mut commands = Vec::new();
     for _ in 0..14 {
-        match random.below(5) {
+        match random.below(6) {
             0 | 1 => commands.push(author.insert(random)),
             2 => commands.push(author.search(random)),
+            3 => commands.extend([author.cards(random), author.card(random)]),
             _ => {
                 let role = random.pick(&Role::ALL);
                 commands.extend(author.delete(random, role));
@@ -82,8 +83,10 @@ pub fn largest(random: &mut Random, round: usize) -> History {
         Command::Search { kind, signature, radius: u32::MAX, places }
     };
     let mut commands = vec![everything(&mut author, random), Command::Check, author.insert(random)];
+    commands.push(Command::Cards { places: MOST_RECORDS });
     commands.extend(author.delete(random, Role::Root));
     commands.extend([everything(&mut author, random), Command::Check, author.insert(random)]);
+    commands.extend([author.cards(random), author.card(random)]);
     commands.extend(author.delete(random, Role::Middle));
     commands.extend([author.search(random), author.search(random)]);
     History { start, commands }

@@ -32,7 +32,7 @@ pub fn rough(random: &mut Random, _: usize) -> History {
     history(random, Manner::Rough, records, 30 + 3 * records)
 }
 
-/// Ten calls or so on a table of so many records, not quite full, or full.
+/// Twelve calls or so on a table of so many records, not quite full, or full.
 pub fn every_size(random: &mut Random, round: usize) -> History {
     let records = round + 1;
     let free = random.pick(&[0, 1, 1, 2, records / 3]);
@@ -44,5 +44,6 @@ pub fn every_size(random: &mut Random, round: usize) -> History {
     commands.extend(author.delete(random, Role::Leaf));
     commands.extend(author.delete(random, Role::Any));
     commands.extend([author.insert(random), author.search(random), Command::Check]);
+    commands.extend([author.cards(random), author.card(random)]);
     History { start, commands }
 }

@@ -10,7 +10,7 @@ pub struct Author {
     records: usize,
     pub kind: u8,
     source: Source,
-    /// The cards that inserts and deletes are of.
+    /// The cards that inserts, deletes and questions are of.
     pub cards: Vec<u32>,
     /// One arity for the history, or none for any at each call.
     arity: Option<u8>,
@@ -81,9 +81,16 @@ impl Author {
         self.records + random.below(4)
     }
 
+    fn some_row(&self, random: &mut Random) -> usize {
+        if random.percent(15) {
+            return random.pick(&[0, 1, 16, 31]);
+        }
+        random.pick(&[32, 32, 33, 40, 64])
+    }
+
     pub fn command(&mut self, random: &mut Random) -> Command {
         match random.below(100) {
-            0..=69 if random.percent(self.growth) => {
+            0..=61 if random.percent(self.growth) => {
                 let kind = self.some_kind(random);
                 Command::Insert {
                     card: self.some_card(random),
@@ -92,7 +99,9 @@ impl Author {
                     arity: self.some_arity(random),
                 }
             }
-            0..=69 => Command::Delete { card: self.some_card(random), arity: self.some_arity(random) },
+            0..=61 => Command::Delete { card: self.some_card(random), arity: self.some_arity(random) },
+            62..=64 => Command::Cards { places: self.some_places(random) },
+            65..=69 => Command::Card { card: self.some_card(random), row: self.some_row(random) },
             70..=93 => Command::Search {
                 kind: self.some_kind(random),
                 signature: self.some_signature(random),

@@ -1,7 +1,7 @@
 //! Histories and tables drawn at random: of any manner and size, and tables as calls leave them.
 
 use super::author::Author;
-use super::{Command, History};
+use super::{Command, History, Lent};
 use crate::assemble;
 use crate::calls::Model;
 use crate::distance::Signature;
@@ -63,6 +63,7 @@ pub fn any_history(random: &mut Random) -> History {
     let mut history = history(random, manner, records, 30 + 3 * records);
     if random.percent(2) {
         history.start.resize(random.pick(&[0, 63, 65, 65_600]), 0);
+        history.commands.push(Command::Clear);
     }
     history
 }
@@ -74,7 +75,7 @@ pub fn grown_table(random: &mut Random, records: usize) -> Vec<u8> {
     for _ in 0..random.below(3 * records + 4) {
         let command = author.command(random);
         if matches!(command, Command::Insert { .. } | Command::Delete { .. } | Command::Clear) {
-            command.make(&mut Model, &mut table, &mut []);
+            command.make(&mut Model, &mut table, &mut Lent::default());
         }
     }
     table

@@ -29,11 +29,26 @@ pub enum Command {
         places: usize,
     },
     Check,
+    Cards {
+        places: usize,
+    },
+    Card {
+        card: u32,
+        /// The row's length in bytes.
+        row: usize,
+    },
     /// No call: bits of one byte of the table are turned from outside. Twice the same gives the byte back.
     Turn {
         at: usize,
         bits: u8,
     },
+}
+
+/// What a command is lent to be written besides its table; each is empty where the call takes none.
+#[derive(Clone, Debug, Default, PartialEq, Eq)]
+pub struct Lent {
+    pub list: Vec<u32>,
+    pub row: Vec<u8>,
 }
 
 #[derive(Clone, Debug, PartialEq, Eq)]
@@ -43,8 +58,8 @@ pub struct History {
 }
 
 impl Command {
-    /// Makes the call on a table and a list; no answer where the command is no call.
-    pub fn make(&self, index: &mut dyn Index, table: &mut [u8], list: &mut [u32]) -> Option<Answer> {
+    /// Makes the call on a table and what else is lent; no answer where the command is no call.
+    pub fn make(&self, index: &mut dyn Index, table: &mut [u8], lent: &mut Lent) -> Option<Answer> {
         match self {
             Command::Clear => Some(index.clear(table)),
             Command::Insert { card, kind, signature, arity } => {
@@ -52,9 +67,12 @@ impl Command {
             }
             Command::Delete { card, arity } => Some(index.delete(table, *card, *arity)),
             Command::Search { kind, signature, radius, .. } => {
+                let list = &mut lent.list;
                 Some(index.search(table, Search { kind: *kind, signature, radius: *radius, list }))
             }
             Command::Check => Some(index.check(table)),
+            Command::Cards { .. } => Some(index.cards(table, &mut lent.list)),
+            Command::Card { card, .. } => Some(index.card(table, *card, &mut lent.row)),
             Command::Turn { at, bits } => {
                 if let Some(byte) = table.get_mut(*at) {
                     *byte ^= bits;
@@ -64,11 +82,30 @@ impl Command {
         }
     }
 
-    /// A list as it is lent to this command: no entry is one that a call would write by chance.
-    pub fn list(&self) -> Vec<u32> {
+    /// What is lent to this command: hardly an entry is one that a call would write by chance, or is like another.
+    pub fn lent(&self) -> Lent {
+        let (places, bytes) = match self {
+            Command::Search { places, .. } | Command::Cards { places } => (*places, 0),
+            Command::Card { row, .. } => (0, *row),
+            _ => (0, 0),
+        };
+        Lent {
+            list: (0..places as u32).map(|place| 0xdead_0000 + place).collect(),
+            row: (0..bytes).map(|place| (0xa3 + 29 * place) as u8).collect(),
+        }
+    }
+
+    /// The name of the call; bytes turned from outside have one as well.
+    pub fn name(&self) -> &'static str {
         match self {
-            Command::Search { places, .. } => (0..*places as u32).map(|place| 0xdead_0000 + place).collect(),
-            _ => Vec::new(),
+            Command::Clear => "clear",
+            Command::Insert { .. } => "insert",
+            Command::Delete { .. } => "delete",
+            Command::Search { .. } => "search",
+            Command::Check => "check",
+            Command::Cards { .. } => "cards",
+            Command::Card { .. } => "card",
+            Command::Turn { .. } => "turn",
         }
     }
 }
@@ -91,17 +128,19 @@ impl fmt::Display for Hex<'_> {
 
 impl fmt::Display for Command {
     fn fmt(&self, f: &mut fmt::Formatter<'_>) -> fmt::Result {
+        write!(f, "{}", self.name())?;
         match self {
-            Command::Clear => write!(f, "clear"),
+            Command::Clear | Command::Check => Ok(()),
             Command::Insert { card, kind, signature, arity } => {
-                write!(f, "insert card {card} kind {kind} arity {arity} signature {}", Hex(signature))
+                write!(f, " card {card} kind {kind} arity {arity} signature {}", Hex(signature))
             }
-            Command::Delete { card, arity } => write!(f, "delete card {card} arity {arity}"),
+            Command::Delete { card, arity } => write!(f, " card {card} arity {arity}"),
             Command::Search { kind, signature, radius, places } => {
-                write!(f, "search kind {kind} radius {radius} places {places} signature {}", Hex(signature))
+                write!(f, " kind {kind} radius {radius} places {places} signature {}", Hex(signature))
             }
-            Command::Check => write!(f, "check"),
-            Command::Turn { at, bits } => write!(f, "turn byte {at} by {bits:#04x}"),
+            Command::Cards { places } => write!(f, " places {places}"),
+            Command::Card { card, row } => write!(f, " {card} row of {row} bytes"),
+            Command::Turn { at, bits } => write!(f, " byte {at} by {bits:#04x}"),
         }
     }
 }

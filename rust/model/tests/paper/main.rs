@@ -1,8 +1,10 @@
-//! The paper's listing, its edges and its errors that look right, worked out by hand and held against the model.
+//! The paper's listing, its edges and its errors that look right, worked out by hand and held against the model; and
+//! edges of the calls that go beyond the paper.
 
 mod edges;
 mod errors;
 mod listing;
+mod stored;
 
 use model::calls::Model;
 use model::distance::{Signature, READINGS};
@@ -36,7 +38,7 @@ fn search(table: &[u8], value: u16, radius: u32) -> (Answer, Vec<u32>) {
 }
 
 fn done(count: u32, found: u32) -> Answer {
-    Answer { refusal: DONE, count, found }
+    Answer { refusal: DONE, count, found, kind: 0 }
 }
 
 fn refused(refusal: u32) -> Answer {

@@ -2,10 +2,11 @@
 //! history that shows it. An index without a slip must pass, so the slips alone are what is caught.
 
 mod slipped;
+mod stored;
 mod walk;
 
 use model::calls::Model;
-use model::compare::compare;
+use model::compare::{compare, run};
 use model::history::{history, Manner};
 use model::random::Random;
 use slipped::Slipped;
@@ -37,12 +38,32 @@ enum Slip {
     NewestFirst,
     FullBeforeTwice,
     WritesWhenRefused,
+    // Slips in telling what is stored.
+    CardsInTreeOrder,
+    CardsWithFree,
+    CardLeftOut,
+    LaterCardsZeroed,
+    /// A list with fewer entries than records is refused, free ones counted too.
+    CardsNeedAll,
+    FoundWhenShort,
+    CardsWhenShort,
+    CardsNotJudged,
+    KindAlwaysReadings,
+    SignatureOfFirst,
+    RowPastSignature,
+    ShortBeforeAbsent,
+    CardZeroAbsent,
+    /// Card 0 is found in a free record.
+    CardZeroFree,
+    KindWhenRefused,
+    RowWhenShort,
+    CardNotJudged,
     // Shams that the contract must shut out.
     RefusesAll,
     StoresFirstOnly,
 }
 
-const ALL: [Slip; 23] = [
+const ALL: [Slip; 40] = [
     Slip::ParentAmongCandidates,
     Slip::YoungerInSmallest,
     Slip::FoundByWalking,
@@ -64,6 +85,23 @@ const ALL: [Slip; 23] = [
     Slip::NewestFirst,
     Slip::FullBeforeTwice,
     Slip::WritesWhenRefused,
+    Slip::CardsInTreeOrder,
+    Slip::CardsWithFree,
+    Slip::CardLeftOut,
+    Slip::LaterCardsZeroed,
+    Slip::CardsNeedAll,
+    Slip::FoundWhenShort,
+    Slip::CardsWhenShort,
+    Slip::CardsNotJudged,
+    Slip::KindAlwaysReadings,
+    Slip::SignatureOfFirst,
+    Slip::RowPastSignature,
+    Slip::ShortBeforeAbsent,
+    Slip::CardZeroAbsent,
+    Slip::CardZeroFree,
+    Slip::KindWhenRefused,
+    Slip::RowWhenShort,
+    Slip::CardNotJudged,
     Slip::RefusesAll,
     Slip::StoresFirstOnly,
 ];
@@ -97,5 +135,27 @@ fn every_slip_is_caught_and_its_history_shortened() {
         let commands = failure.history.commands.len();
         println!("{slip:?}: history {}, {commands} commands left: {}", round + 1, failure.difference.what);
         assert!(commands <= 20, "{slip:?}:\n{failure}");
+    }
+}
+
+/// Two indexes that err alike do not differ; what the calls stored shows it all the same.
+#[test]
+fn slips_in_telling_what_is_stored_are_caught_by_what_the_calls_stored() {
+    let told = [
+        Slip::CardsInTreeOrder,
+        Slip::CardsWithFree,
+        Slip::CardLeftOut,
+        Slip::CardsNeedAll,
+        Slip::KindAlwaysReadings,
+        Slip::SignatureOfFirst,
+        Slip::ShortBeforeAbsent,
+    ];
+    for slip in told {
+        let mut random = Random::new(13);
+        let caught = (0..300).any(|round| {
+            let history = history(&mut random, Manner::Fresh, 2 + round % 30, 120);
+            run(&mut Slipped(slip), &mut Slipped(slip), &history).is_err()
+        });
+        assert!(caught, "{slip:?} was never caught");
     }
 }

@@ -1,7 +1,7 @@
 //! The index with one slip: its calls, and insert and delete as they slip.
 
 use crate::walk::Walk;
-use crate::Slip;
+use crate::{stored, Slip};
 use model::calls::Model;
 use model::index::{Answer, Index, Search};
 use model::refusal::{ABSENT, DONE, FULL, TWICE};
@@ -165,5 +165,13 @@ impl Index for Slipped {
 
     fn check(&mut self, table: &[u8]) -> Answer {
         Model.check(table)
+    }
+
+    fn cards(&mut self, table: &[u8], list: &mut [u32]) -> Answer {
+        stored::cards(self.0, table, list)
+    }
+
+    fn card(&mut self, table: &[u8], card: u32, row: &mut [u8]) -> Answer {
+        stored::card(self.0, table, card, row)
     }
 }
