@@ -3,13 +3,15 @@
 use Prim.Native.Nat.{ℕ}
 use mathlib.Core.Path.{_≡_, refl, sym, ap, _∙_}
 use mathlib.Core.Bool.{true, false, not}
-use mathlib.Core.List.{List, [], _∷_}
+use mathlib.Core.List.{List, [], _∷_, _++_}
 use native.Mathlib.Omega.{arith}
+use native.Mathlib.Decide.{ℕ-discrete}
+use lib.Dec.{eqb}
 use lib.ListN.{length}
-use borrow.Author.Tests.{not-false}
-use Rattle.places.specs.Choice.{or-left, or-right}
+use borrow.Author.Tests.{not-false, eq-eqb, ne-eqb}
+use Rattle.places.specs.Choice.{pick, or-left, or-right}
 use Rattle.refusals.specs.Refusal.{Test, firstOf, done, SIZE, TABLE}
-use Rattle.refusals.specs.First.{anyHolds, first-none}
+use Rattle.refusals.specs.First.{anyHolds, first-append, first-none}
 use Rattle.table.specs.Record.{Record, recordOf}
 use Rattle.table.specs.Table.{rightSize, recordsIn}
 use Rattle.table.specs.Stands.{right-are}
@@ -48,6 +50,30 @@ admitted-readable l e =
           not-false (wellFormed (recordsIn l) (recordOf l))
           (or-left b false (or-right a (anyHolds ((b, TABLE) ∷ [])) none));
     }
+
+-- ---- a call's own tests, after those of its table
+
+module _ (l : List ℕ) (own : List Test) where
+  by-groups :
+      firstOf (admissionTests l ++ own)
+      ≡ pick (eqb (firstOf (admissionTests l)) done) (firstOf own) (firstOf (admissionTests l))
+  by-groups = first-append (admissionTests l) own refl
+
+  -- the table's refusal comes first
+  pub table-refuses :
+      (firstOf (admissionTests l) ≡ done → ⊥) → firstOf (admissionTests l ++ own) ≡ firstOf (admissionTests l)
+  table-refuses n = by-groups ∙ rw (ne-eqb (firstOf (admissionTests l)) done n)
+
+  -- and of an admitted table the call's own
+  pub own-first : firstOf (admissionTests l) ≡ done → firstOf (admissionTests l ++ own) ≡ firstOf own
+  own-first e = by-groups ∙ rw (eq-eqb (firstOf (admissionTests l)) done e)
+
+  -- a call that is not refused was lent a table that is admitted
+  pub table-passes : firstOf (admissionTests l ++ own) ≡ done → firstOf (admissionTests l) ≡ done
+  table-passes e = elim (ℕ-discrete (firstOf (admissionTests l)) done) [
+    | yes z ↦ z
+    | no n ↦ absurd (n (sym (table-refuses n) ∙ e))
+  ]
 
 -- ---- the three ends of the judging
 

@@ -5,14 +5,14 @@ use mathlib.Core.Path.{_≡_, refl, sym, ap, subst, _∙_}
 use mathlib.Core.Bool.{Bool, true, false, _||_, not, false≢true}
 use mathlib.Core.List.{List, [], _∷_, _++_}
 use native.Mathlib.Omega.{arith}
-use lib.Dec.{eqb, leb}
+use lib.Dec.{leb}
 use lib.ListN.{length}
-use borrow.Author.Tests.{eq-eqb, ne-eqb, le-leb, lt-leb, leb-true, leb-false, not-false}
+use borrow.Author.Tests.{ne-eqb, le-leb, lt-leb, leb-true, leb-false, not-false}
 use Rattle.places.specs.Choice.{pick, and-left, and-right}
 use Rattle.admission.specs.Query.{knownChange}
 use Rattle.refusals.specs.Limits.{mostChildren, knownArity}
 use Rattle.refusals.specs.Refusal.{ARGUMENT, ABSENT, CLOCK, firstOf, done}
-use Rattle.refusals.specs.First.{anyHolds, first-append, first-none, first-given, first-done}
+use Rattle.refusals.specs.First.{anyHolds, first-none, first-given, first-done}
 use Rattle.refusals.specs.Outcome.{Outcome, refused}
 use Rattle.table.specs.Record.{Record, recordOf}
 use Rattle.table.specs.Table.{rightSize, recordsIn, recordsOf, at}
@@ -23,7 +23,7 @@ use Rattle.judge.specs.WellFormed.{WellFormed, wellFormed}
 use Rattle.survey.specs.Survey.{slotOfCard}
 use Rattle.survey.specs.Laws.{slot-has-card}
 use Rattle.judge.specs.Readable.{Readable}
-use Rattle.admission.specs.Admission.{admissionTests}
+use Rattle.admission.specs.Admission.{admissionTests, table-refuses, own-first}
 use Rattle.view.specs.Shaped.{Shaped}
 use Rattle.view.specs.Readable.{readable-formed, readable-shaped}
 use Rattle.placing.specs.Changed.{changed}
@@ -82,28 +82,17 @@ module _ (l : List ℕ) (card arity : ℕ) where
   unfolding outcomeAt deleteOf
   clock-passed e given = rw (given, e)
 
-  by-groups : refusalOf l card arity
-      ≡ pick (eqb (firstOf (admissionTests l)) done) (firstOf (deletionTests l card arity)) (firstOf (admissionTests l))
-  unfolding refusalOf
-  by-groups = first-append (admissionTests l) (deletionTests l card arity) refl
-
   -- by the table's size or form
   pub admission-refused : (k : ℕ) → k ≡ firstOf (admissionTests l) → (k ≡ done → ⊥)
       → refusedBy k l ≡ deleteOf l card arity
+  unfolding refusalOf
   admission-refused k e ne =
-      refusal-given k
-      (by-groups
-      ∙ ap (λ (t : Bool). pick t (firstOf (deletionTests l card arity)) (firstOf (admissionTests l)))
-      (ne-eqb (firstOf (admissionTests l)) done (λ z. ne (e ∙ z)))
-      ∙ sym e)
-      ne
+      refusal-given k (table-refuses l (deletionTests l card arity) (λ z. ne (e ∙ z)) ∙ sym e) ne
 
   module _ (admitted : firstOf (admissionTests l) ≡ done) where
     own : refusalOf l card arity ≡ firstOf (deletionTests l card arity)
-    own =
-        by-groups
-        ∙ ap (λ (t : Bool). pick t (firstOf (deletionTests l card arity)) (firstOf (admissionTests l)))
-        (eq-eqb (firstOf (admissionTests l)) done admitted)
+    unfolding refusalOf
+    own = own-first l (deletionTests l card arity) admitted
 
     -- by the arguments
     pub argument-refused : knownChange card arity ≡ false → refusedBy ARGUMENT l ≡ deleteOf l card arity

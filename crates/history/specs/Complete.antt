@@ -2,27 +2,27 @@
 -- exactly the stored cards within its radius (`sound-exactly`). One way is what search promises of a sound table. The
 -- other: ask for each stored card's own signature with radius 0; if all of these searches find their card, the table is
 -- sound, by tree's `entered-sound`. Assumes nothing.
-use Prim.Native.Nat.{ℕ, _+_, _*_, _≤_, _<_}
-use mathlib.Core.Path.{_≡_, refl, sym, ap, _∙_}
+use Prim.Native.Nat.{ℕ, _≤_, _<_}
+use mathlib.Core.Path.{_≡_, refl, sym, _∙_}
 use mathlib.Core.Bool.{Bool, true, false, _&&_}
 use mathlib.Core.Logic.{_↔_}
 use mathlib.Core.List.{List}
 use native.Mathlib.Omega.{arith}
 use native.Mathlib.Decide.{ℕ-discrete}
 use lib.Dec.{ltb, eqb}
-use lib.ListN.{length, getD, replicate, length-replicate}
-use lib.Seq.{ext-getD}
+use lib.ListN.{length, replicate, length-replicate}
+use lib.Seq.{sets, length-sets}
 use borrow.Author.Tests.{eq-eqb}
 use Rattle.places.specs.Choice.{and-both}
-use Rattle.places.specs.Row.{rowTo, row-length, row-at}
-use Rattle.number.specs.Number.{numberAt}
 use Rattle.number.specs.Frame.{Bytes}
-use Rattle.distance.specs.Signature.{readingsAt, readings-length, reading-at}
+use Rattle.distance.specs.Signature.{readingsAt}
 use Rattle.distance.specs.Kind.{apart, apart-distance, knownKind}
 use Rattle.refusals.specs.Limits.{signatureLength}
 use Rattle.refusals.specs.Refusal.{done, firstOf}
-use Rattle.table.specs.Record.{Record, Used, recordAt, recordOf, placeOf, signatureAt}
+use Rattle.table.specs.Record.{Record, Used, recordOf}
 use Rattle.table.specs.Table.{rightSize, recordsIn}
+use Rattle.table.specs.Same.{readings-length-of}
+use Rattle.table.specs.Fitting.{record-fits}
 use Rattle.judge.specs.WellFormed.{WellFormed}
 use Rattle.judge.specs.Decided.{formed-decided}
 use Rattle.judge.specs.Readable.{Readable}
@@ -45,43 +45,28 @@ use Rattle.search.specs.Search.{noBound, cards, refusalOf}
 use Rattle.search.specs.Tests.{refusal-none}
 use Rattle.search.specs.Listing.{entered-some}
 use Rattle.search.specs.Promises.{refusal-is, listed-cards, listed-exactly}
+use Rattle.inventory.specs.Card.{signatureBytes}
+use Rattle.inventory.specs.Row.{row-read}
 use Rattle.soundness.specs.Soundness.{checkOf}
 use Rattle.soundness.specs.Check.{done-sound, sound-done}
 use Rattle.history.specs.Demands.{ListsExactly}
 
 -- ---- a stored signature as a query
 
-module _ (l : List ℕ) (x : ℕ) where
-  -- the bytes of the signature in slot x
+module _ (l : List ℕ) (bytes : Bytes l) (x : ℕ) where
+  -- its bytes, laid in a row of 32
   abbrev query : List ℕ
-  query = rowTo 32 (λ i. getD l (signatureAt (placeOf x) + i) 0)
+  query = sets (replicate signatureLength 0) 0 (signatureBytes (recordOf l x))
 
-  query-byte : (i : ℕ) → i < 32 → getD query i 0 ≡ getD l (signatureAt (placeOf x) + i) 0
-  query-byte i h = row-at 32 (λ k. getD l (signatureAt (placeOf x) + k) 0) 0 i h
-
-  query-pair : (i : ℕ) → i < 16 → numberAt 2 query (0 + 2 * i) ≡ numberAt 2 l (signatureAt (placeOf x) + 2 * i)
-  unfolding numberAt
-  query-pair i h =
-      let low = query-byte (2 * i) (omega arith) in
-      let high = query-byte (2 * i + 1) (omega arith) in
-      let at : (m : List ℕ) (j k : ℕ) → j ≡ k → getD m j 0 ≡ getD m k 0 = λ m j k e. ap (λ (b : ℕ). getD m b 0) e in
-      omega (
-        arith,
-        low,
-        high,
-        at query (0 + 2 * i) (2 * i) (omega arith),
-        at query (0 + 2 * i + 1) (2 * i + 1) (omega arith),
-        at l (signatureAt (placeOf x) + (2 * i + 1)) (signatureAt (placeOf x) + 2 * i + 1) (omega arith),
-      )
+  query-length : length query ≡ signatureLength
+  query-length =
+      length-sets (replicate signatureLength 0) 0 (signatureBytes (recordOf l x))
+      ∙ length-replicate {A = ℕ} signatureLength 0
 
   query-readings : readingsAt query 0 ≡ recordOf l x .readings
-  unfolding recordOf recordAt
   query-readings =
-      ext-getD 0 (readingsAt query 0) (readingsAt l (signatureAt (placeOf x)))
-      (readings-length query 0 ∙ sym (readings-length l (signatureAt (placeOf x))))
-      (λ i h.
-      let b : i < 16 = omega (arith, h, readings-length query 0) in
-      reading-at query 0 i b ∙ query-pair i b ∙ sym (reading-at l (signatureAt (placeOf x)) i b))
+      row-read (replicate signatureLength 0) (recordOf l x .readings) (readings-length-of l x)
+      (record-fits l x bytes .readings) (omega (arith, length-replicate {A = ℕ} signatureLength 0))
 
 -- ---- a table on which every search lists all that it should
 
@@ -89,7 +74,7 @@ never : (b : Bool) → b && false ≡ false
 never true = refl
 never false = refl
 
-module _ {l : List ℕ} (ok : Readable l) (lists : ListsExactly l) where
+module _ {l : List ℕ} (ok : Readable l) (bytes : Bytes l) (lists : ListsExactly l) where
   abbrev n : ℕ
   n = recordsIn l
 
@@ -113,43 +98,43 @@ module _ {l : List ℕ} (ok : Readable l) (lists : ListsExactly l) where
     abbrev kind : ℕ
     kind = kindOf n R
 
-    known : knownQuery kind (query l x) ≡ true
+    known : knownQuery kind (query l bytes x) ≡ true
     known =
-        and-both (knownKind kind) (eqb (length (query l x)) signatureLength)
+        and-both (knownKind kind) (eqb (length (query l bytes x)) signatureLength)
         (rw (kindOf-is n R (readable-formed ok) x within u) (readable-formed ok .filled x within u .kind-known))
-        (eq-eqb (length (query l x)) signatureLength (row-length 32 (λ i. getD l (signatureAt (placeOf x) + i) 0)))
+        (eq-eqb (length (query l bytes x)) signatureLength (query-length l bytes x))
 
     same-kind : otherKind n R kind ≡ false
     unfolding otherKind
     same-kind = rw (eq-eqb kind kind refl) (never (ltb 0 (usedIn n R)))
 
     -- the search for the card's own signature with radius 0 is accepted
-    none : refusalOf l kind (query l x) (length room) ≡ done
+    none : refusalOf l kind (query l bytes x) (length room) ≡ done
     none =
-        sym (refusal-none l kind (query l x) (length room) admitted known same-kind
+        sym (refusal-none l kind (query l bytes x) (length room) admitted known same-kind
         (omega (arith, usedIn-most n R, length-replicate {A = ℕ} n 0)))
 
     -- and so lists the card
-    listed : R x .card ∈ cards n R kind (readingsAt (query l x) 0) 0
+    listed : R x .card ∈ cards n R kind (readingsAt (query l bytes x) 0) 0
     listed =
-        let yes′ = refusal-is l kind (query l x) 0 room ∙ none in
-        let itself : apart kind (R x .readings) (readingsAt (query l x) 0) ≤ 0 =
-        rw (query-readings l x) (omega (arith, apart-distance kind .to-self (R x .readings))) in
-        rw (listed-cards l kind (query l x) 0 room none)
-        at (lists kind (query l x) 0 room yes′ (R x .card) .1 (x, u, refl, itself))
+        let yes′ = refusal-is l kind (query l bytes x) 0 room ∙ none in
+        let itself : apart kind (R x .readings) (readingsAt (query l bytes x) 0) ≤ 0 =
+        rw (query-readings l bytes x) (omega (arith, apart-distance kind .to-self (R x .readings))) in
+        rw (listed-cards l kind (query l bytes x) 0 room none)
+        at (lists kind (query l bytes x) 0 room yes′ (R x .card) .1 (x, u, refl, itself))
 
     -- so the record is entered
     entered : x ∈ visit (apart kind) (viewOf R) (R x .readings) 0 (usedIn n R) (rootOf n R) noBound
     unfolding cards
     entered =
         let wf : Formed (viewOf R) n (rootOf n R) = readable-seen ok some in
-        let q = readingsAt (query l x) 0 in
+        let q = readingsAt (query l bytes x) 0 in
         let i = rw (entered-some n R kind q 0 some) at listed in
         let es = visit (apart kind) (viewOf R) q 0 (usedIn n R) (rootOf n R) noBound in
         let z = listed-from (apart kind) (viewOf R) q 0 (R x .card) es i in
         let w = visit-used (apart kind) q 0 wf (usedIn n R) (rootOf n R) noBound (z .0) (wf .root-used) (z .1) in
         let same : z .0 ≡ x = wf .cards (z .0) x w u (z .2) in
-        rw (query-readings l x) at (rw same at (z .1))
+        rw (query-readings l bytes x) at (rw same at (z .1))
 
   sound : SoundTable n R
   sound = elim (ℕ-discrete (usedIn n R) 0) [
@@ -171,7 +156,7 @@ module _ (l : List ℕ) (bytes : Bytes l) where
   sound-exactly size wf = (
     λ ok kind s r list e. listed-exactly l kind s r list (sym (refusal-is l kind s r list) ∙ e) bytes ok,
     λ lists.
-        sound (record { size = size; formed = formed-decided (recordsIn l) (recordOf l) .passes wf }) lists,
+        sound (record { size = size; formed = formed-decided (recordsIn l) (recordOf l) .passes wf }) bytes lists,
   )
 
   -- check answers 0 exactly of a well-formed table of the right size on which every search misses nothing

@@ -2,20 +2,17 @@
 -- what the table holds. Assumes nothing.
 use Prim.Native.Nat.{ℕ}
 use mathlib.Core.Bool.{Bool, true, false, _||_, not, false≢true}
-use mathlib.Core.Path.{_≡_, refl, sym, ap, _∙_}
+use mathlib.Core.Path.{_≡_, refl, sym}
 use mathlib.Core.List.{List, [], _∷_}
-use lib.Dec.{eqb, leb, ltb}
-use borrow.Author.Tests.{eq-eqb, ne-eqb}
-use Rattle.places.specs.Choice.{pick}
+use lib.Dec.{leb, ltb}
 use Rattle.table.specs.Record.{recordOf}
 use Rattle.table.specs.Table.{recordsIn}
 use Rattle.survey.specs.declared.Findings.{Findings}
 use Rattle.survey.specs.Survey.{slotOfCard, lowestFree, largestTimestamp}
 use Rattle.survey.specs.Answers.{Answers}
 use Rattle.refusals.specs.Refusal.{Test, firstOf, done, ARGUMENT, KIND, TWICE, FULL, CLOCK}
-use Rattle.refusals.specs.First.{first-append}
 use Rattle.refusals.specs.Limits.{lastTimestamp}
-use Rattle.admission.specs.Admission.{admissionTests}
+use Rattle.admission.specs.Admission.{admissionTests, table-refuses, own-first}
 use Rattle.admission.specs.Query.{otherKind, otherFound, other-found}
 use Rattle.insert.specs.Insert.{rightArguments, refusalOf}
 
@@ -81,13 +78,11 @@ module _ (l : List ℕ) (card kind arity : ℕ) (s : List ℕ) where
   abbrev first : ℕ
   first = firstOf (admissionTests l)
 
-  refusal-is : refusalOf l card kind arity s ≡ pick (eqb first done) (firstOf ownTests) first
-  unfolding refusalOf
-  refusal-is = first-append (admissionTests l) ownTests refl
-
   -- the admission's, if there is one, and else insert's own
   pub refusal-first : (first ≡ done → ⊥) → refusalOf l card kind arity s ≡ first
-  refusal-first ne = refusal-is ∙ ap (λ (t : Bool). pick t (firstOf ownTests) first) (ne-eqb first done ne)
+  unfolding refusalOf
+  refusal-first ne = table-refuses l ownTests ne
 
   pub refusal-own : first ≡ done → refusalOf l card kind arity s ≡ firstOf ownTests
-  refusal-own e = refusal-is ∙ ap (λ (t : Bool). pick t (firstOf ownTests) first) (eq-eqb first done e)
+  unfolding refusalOf
+  refusal-own e = own-first l ownTests e

@@ -8,14 +8,14 @@ use mathlib.Core.List.{List, [], _∷_, _++_, append-nil, Memᴰ·append-left, M
 use mathlib.Core.List.{List·Memᴰ·head as first, List·Memᴰ·not-nil, List·Memᴰ·append-cases}
 use native.Mathlib.Omega.{arith}
 use native.Mathlib.Numerals.{add-one}
-use native.Mathlib.Nat.{zero-add}
 use lib.Dec.{eqb}
 use lib.ListN.{length, length-append, length-set, take, drop, set, take-append-drop}
-use lib.Seq.{sets, sets-eq, take-suc-set, take-set-le, drop-set-lt}
+use lib.Seq.{sets, take-suc-set, take-set-le, drop-set-lt}
 use mir.Val.{boolByte}
 use borrow.Author.Tests.{leb-true, le-leb, lt-leb, eq-eqb, ne-eqb}
 use Rattle.places.specs.Choice.{pick}
 use Rattle.places.specs.Cases.{either, equal-or, below-or}
+use Rattle.places.specs.Laid.{laid as laid-front}
 use Rattle.places.specs.Test.{countTo, count-grows}
 use Rattle.table.specs.Record.{Record, Used, used}
 use Rattle.survey.specs.Survey.{usedIn}
@@ -25,10 +25,6 @@ use Rattle.inventory.specs.Cards.{cardsIn}
 -- the only element of a list
 alone : {x y : ℕ} → x ∈ (y ∷ []) → x ≡ y
 alone (first e) = e
-
--- numbers laid from a list's start: the list is these, and then what it was
-pub laid-over : (cs list : List ℕ) → length cs ≤ length list → sets list 0 cs ≡ cs ++ drop (length cs) list
-laid-over cs list h = sets-eq cs list 0 (omega arith) ∙ ap (λ (k : ℕ). cs ++ drop k list) (zero-add (length cs))
 
 module _ (R : ℕ → Record) where
   -- ---- one slot more
@@ -216,4 +212,4 @@ module _ (R : ℕ → Record) where
         ∙ ap₂ (λ (a b : List ℕ). a ++ b)
         (ap (λ (k : ℕ). take k list) (sym same) ∙ laid .cards ∙ cs)
         (laid .later ∙ ap (λ (k : ℕ). drop k before) (sym long))
-        ∙ sym (laid-over (cardsIn n R) before (omega (arith, long)))
+        ∙ sym (laid-front (cardsIn n R) before (omega (arith, long)))

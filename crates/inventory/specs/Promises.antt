@@ -8,6 +8,7 @@ use native.Mathlib.Omega.{arith}
 use native.Mathlib.Decide.{ℕ-discrete}
 use lib.ListN.{length, take, drop}
 use lib.Seq.{take-append-seam, drop-append-seam}
+use Rattle.places.specs.Laid.{laid}
 use Rattle.number.specs.Frame.{Bytes}
 use Rattle.distance.specs.Signature.{readingsAt}
 use Rattle.refusals.specs.Limits.{signatureLength}
@@ -27,7 +28,7 @@ use Rattle.inventory.specs.Card as Card
 use Rattle.inventory.specs.Card.{telling, oneCardOf}
 use Rattle.inventory.specs.Tests.{cards-accepted, cards-refused, cards-readable, cards-room}
 use Rattle.inventory.specs.Tests.{card-accepted, card-refused, card-readable, card-some, card-within, card-room}
-use Rattle.inventory.specs.Listing.{laid-over, cards-length, cards-from, cards-to, cards-distinct}
+use Rattle.inventory.specs.Listing.{cards-length, cards-from, cards-to, cards-distinct}
 use Rattle.inventory.specs.Row.{row-read, row-later}
 
 -- ---- all cards, of the table l and a lent list
@@ -61,7 +62,7 @@ module _ (l : List ℕ) (list : List ℕ) where
     listed-cards : listedBy ≡ stored
     unfolding listing
     listed-cards =
-        rw (cards-accepted l list e, laid-over stored list fits)
+        rw (cards-accepted l list e, laid stored list fits)
         (take-append-seam stored (drop (length stored) list))
 
     -- as many are found as records are used
@@ -95,7 +96,7 @@ module _ (l : List ℕ) (list : List ℕ) where
         drop (allCardsOf l list .found) (allCardsOf l list .list) ≡ drop (allCardsOf l list .found) list
     unfolding listing
     later-stay =
-        rw (cards-accepted l list e, laid-over stored list fits)
+        rw (cards-accepted l list e, laid stored list fits)
         (drop-append-seam stored (drop (length stored) list))
 
 -- ---- one card, of the table l and a lent row

@@ -8,13 +8,14 @@ use native.Mathlib.Numerals.{add-one}
 use native.Mathlib.Nat.{zero-add, add-zero}
 use lib.ListN.{length, take, drop, getD, set}
 use lib.Seq.{sets, take-suc, take-all, length-take-le, drop-append-seam}
+use Rattle.places.specs.Laid.{laid}
 use Rattle.number.specs.Number.{digits, withNumber}
 use Rattle.distance.specs.Signature.{Fit, readingsAt}
 use Rattle.refusals.specs.Limits.{signatureLength}
 use Rattle.table.specs.Table.{numbers}
+use Rattle.table.specs.RoundTrip.{numbers-length}
 use Rattle.writing.specs.Put.{putReadings}
 use Rattle.writing.specs.Run.{readings-more, readings-put}
-use Rattle.inventory.specs.Listing.{laid-over}
 
 -- ---- one turn of the loop that writes them
 
@@ -31,10 +32,6 @@ row-more row vs n t v e ev =
     ap (λ (at : ℕ). withNumber 2 t at v) (sym (zero-add (2 * n))) ∙ readings-more row 0 vs n t v e ev
 
 -- ---- bytes laid from the row's start
-
-pub numbers-length : (vs : List ℕ) → length (numbers 2 vs) ≡ 2 * length vs
-numbers-length [] = refl
-numbers-length (v ∷ vs) = omega (arith, numbers-length vs)
 
 numbers-last : (vs : List ℕ) (v : ℕ) → numbers 2 (vs ++ (v ∷ [])) ≡ numbers 2 vs ++ digits 2 v
 numbers-last [] v = refl
@@ -82,4 +79,4 @@ module _ (row vs : List ℕ) (sixteen : length vs ≡ 16) where
       let bs = numbers 2 vs in
       let long : length bs ≡ signatureLength = omega (arith, numbers-length vs) in
       subst (λ (k : ℕ). drop k (sets row 0 bs) ≡ drop k row) long
-      (ap (drop (length bs)) (laid-over bs row (omega arith)) ∙ drop-append-seam bs (drop (length bs) row))
+      (ap (drop (length bs)) (laid bs row (omega arith)) ∙ drop-append-seam bs (drop (length bs) row))

@@ -3,9 +3,8 @@
 use Prim.Native.Nat.{ℕ, _≤_, _<_}
 use mathlib.Core.Path.{_≡_, refl, sym, ap, ap₂, _∙_}
 use mathlib.Core.Bool.{false, _||_}
-use mathlib.Core.List.{List, [], _∷_, _++_}
+use mathlib.Core.List.{List, [], _∷_}
 use native.Mathlib.Omega.{arith}
-use native.Mathlib.Decide.{ℕ-discrete}
 use lib.Dec.{eqb, leb, ltb}
 use lib.ListN.{length}
 use lib.Seq.{sets}
@@ -13,41 +12,20 @@ use borrow.Author.Tests.{eq-eqb, ne-eqb, lt-ltb, le-ltb, le-leb, lt-leb, ltb-fal
 use Rattle.places.specs.Choice.{pick, or-left, or-right}
 use Rattle.places.specs.Cases.{below-or}
 use Rattle.refusals.specs.Refusal.{Test, ARGUMENT, ABSENT, SHORT, firstOf, done}
-use Rattle.refusals.specs.First.{first-append, first-none}
+use Rattle.refusals.specs.First.{first-none}
 use Rattle.refusals.specs.Limits.{signatureLength}
 use Rattle.table.specs.Record.{Record, recordOf}
 use Rattle.table.specs.Table.{recordsIn}
 use Rattle.survey.specs.Survey.{usedIn, slotOfCard}
 use Rattle.writing.specs.Put.{putReadings}
 use Rattle.judge.specs.Readable.{Readable}
-use Rattle.admission.specs.Admission.{admissionTests, admitted-readable}
+use Rattle.admission.specs.Admission.{admissionTests, admitted-readable, table-refuses, own-first, table-passes}
 use Rattle.inventory.specs.Cards as Cards
 use Rattle.inventory.specs.Cards.{cardsIn, listing, allCardsOf}
 use Rattle.inventory.specs.Card as Card
 use Rattle.inventory.specs.Card.{cardTests, telling, oneCardOf}
 use Rattle.inventory.specs.Listing.{cards-length}
 use Rattle.inventory.specs.Row.{row-laid}
-
--- ---- a call's own tests, after those of its table
-
-module _ (l : List ℕ) (own : List Test) where
-  by-groups :
-      firstOf (admissionTests l ++ own)
-      ≡ pick (eqb (firstOf (admissionTests l)) done) (firstOf own) (firstOf (admissionTests l))
-  by-groups = first-append (admissionTests l) own refl
-
-  table-refuses :
-      (firstOf (admissionTests l) ≡ done → ⊥) → firstOf (admissionTests l ++ own) ≡ firstOf (admissionTests l)
-  table-refuses n = by-groups ∙ rw (ne-eqb (firstOf (admissionTests l)) done n)
-
-  own-first : firstOf (admissionTests l) ≡ done → firstOf (admissionTests l ++ own) ≡ firstOf own
-  own-first e = by-groups ∙ rw (eq-eqb (firstOf (admissionTests l)) done e)
-
-  table-passes : firstOf (admissionTests l ++ own) ≡ done → firstOf (admissionTests l) ≡ done
-  table-passes e = elim (ℕ-discrete (firstOf (admissionTests l)) done) [
-    | yes z ↦ z
-    | no n ↦ absurd (n (sym (table-refuses n) ∙ e))
-  ]
 
 -- ---- all cards
 

@@ -1,14 +1,12 @@
 -- The outcome of a search by its two cases, the records that it compares, and its list, as laws for what stands above.
 -- Assumes nothing.
 use Prim.Native.Nat.{ℕ, _≤_}
-use mathlib.Core.Path.{_≡_, sym, ap, _∙_}
+use mathlib.Core.Path.{_≡_, sym, _∙_}
 use mathlib.Core.Logic.{_↔_}
-use mathlib.Core.List.{List, [], _++_, List·Memᴰ·not-nil}
+use mathlib.Core.List.{List, [], List·Memᴰ·not-nil}
 use native.Mathlib.Omega.{arith}
-use native.Mathlib.Nat.{zero-add}
 use native.Mathlib.Decide.{ℕ-discrete}
-use lib.ListN.{length, drop}
-use lib.Seq.{sets, sets-eq}
+use lib.ListN.{length}
 use borrow.Author.Tests.{eq-eqb, ne-eqb}
 use Rattle.distance.specs.Signature.{readingsAt}
 use Rattle.distance.specs.Kind.{apart, apart-distance}
@@ -141,7 +139,3 @@ module _ (n : ℕ) (R : ℕ → Record) (kind : ℕ) (q : List ℕ) (r : ℕ)
         late
         c)
   ]
-
--- cards laid from a list's start: the list is these, and then what it was
-pub laid : (cs list : List ℕ) → length cs ≤ length list → sets list 0 cs ≡ cs ++ drop (length cs) list
-laid cs list h = sets-eq cs list 0 (omega arith) ∙ ap (λ (k : ℕ). cs ++ drop k list) (zero-add (length cs))

@@ -8,6 +8,7 @@ use native.Mathlib.Omega.{arith}
 use native.Mathlib.Decide.{ℕ-discrete}
 use lib.ListN.{length, take, drop}
 use lib.Seq.{take-append-seam, drop-append-seam}
+use Rattle.places.specs.Laid.{laid}
 use Rattle.number.specs.Frame.{Bytes}
 use Rattle.distance.specs.Signature.{readingsAt}
 use Rattle.distance.specs.Kind.{apart}
@@ -29,7 +30,7 @@ use Rattle.search.specs.Tests.{accepted}
 use Rattle.view.specs.Survey.{usedIn-usedCount}
 use Rattle.search.specs.Listing.{unbounded, entered-some, cards-fit, distances-fit}
 use Rattle.search.specs.Laws.{accepted-is, refused-is, distances-compared, compared-distinct}
-use Rattle.search.specs.Laws.{distances-narrower, cards-distinct, cards-exactly, laid}
+use Rattle.search.specs.Laws.{distances-narrower, cards-distinct, cards-exactly}
 
 -- of the table l, the kind and the signature's bytes s
 module _ (l : List ℕ) (kind : ℕ) (s : List ℕ) where

@@ -4,19 +4,18 @@ use Prim.Native.Nat.{ℕ, _≤_, _<_}
 use mathlib.Core.Path.{_≡_, refl, sym, _∙_}
 use mathlib.Core.Bool.{true, false, _||_, not}
 use mathlib.Core.List.{List, [], _∷_}
-use native.Mathlib.Decide.{ℕ-discrete}
-use lib.Dec.{eqb, ltb}
+use lib.Dec.{ltb}
 use lib.ListN.{length}
-use borrow.Author.Tests.{eq-eqb, ne-eqb, lt-ltb, le-ltb, ltb-false, not-false}
-use Rattle.places.specs.Choice.{pick, or-left, or-right}
+use borrow.Author.Tests.{lt-ltb, le-ltb, ltb-false, not-false}
+use Rattle.places.specs.Choice.{or-left, or-right}
 use Rattle.table.specs.Record.{recordOf}
 use Rattle.table.specs.Table.{recordsIn}
 use Rattle.survey.specs.Survey.{usedIn, kindOf}
 use Rattle.refusals.specs.Refusal.{Test, ARGUMENT, KIND, SHORT, firstOf, done}
-use Rattle.refusals.specs.First.{first-append, first-none}
+use Rattle.refusals.specs.First.{first-none}
 use Rattle.refusals.specs.Limits.{signatureLength}
 use Rattle.judge.specs.Readable.{Readable}
-use Rattle.admission.specs.Admission.{admissionTests, admitted-readable}
+use Rattle.admission.specs.Admission.{admissionTests, admitted-readable, table-refuses, own-first, table-passes}
 use Rattle.admission.specs.Query.{knownQuery, otherKind, query-length, query-kind}
 use Rattle.search.specs.Search.{refusalOf}
 
@@ -36,20 +35,16 @@ pub record Accepted (l : List ℕ) (kind : ℕ) (s : List ℕ) (m : ℕ) : Type 
   pub room : usedIn (recordsIn l) (recordOf l) ≤ m
 
 module _ (l : List ℕ) (kind : ℕ) (s : List ℕ) (m : ℕ) where
-  refusal-split :
-      refusalOf l kind s m
-      ≡ pick (eqb (firstOf (admissionTests l)) done) (firstOf (ownTests l kind s m)) (firstOf (admissionTests l))
-  unfolding refusalOf
-  refusal-split = first-append (admissionTests l) (ownTests l kind s m) refl
-
   -- ---- the first test that holds
 
   pub refusal-lent : (k : ℕ) → k ≡ firstOf (admissionTests l) → (k ≡ done → ⊥) → k ≡ refusalOf l kind s m
-  refusal-lent k e n = e ∙ sym (refusal-split ∙ rw (ne-eqb (firstOf (admissionTests l)) done (λ z. n (e ∙ z))))
+  unfolding refusalOf
+  refusal-lent k e n = e ∙ sym (table-refuses l (ownTests l kind s m) (λ z. n (e ∙ z)))
 
   module _ (admitted : firstOf (admissionTests l) ≡ done) where
     refusal-own : refusalOf l kind s m ≡ firstOf (ownTests l kind s m)
-    refusal-own = refusal-split ∙ rw (eq-eqb (firstOf (admissionTests l)) done admitted)
+    unfolding refusalOf
+    refusal-own = own-first l (ownTests l kind s m) admitted
 
     pub refusal-argument : knownQuery kind s ≡ false → ARGUMENT ≡ refusalOf l kind s m
     refusal-argument e = sym (refusal-own ∙ rw e)
@@ -75,10 +70,8 @@ module _ (l : List ℕ) (kind : ℕ) (s : List ℕ) (m : ℕ) where
   -- ---- none holds
 
   pub refusal-admits : refusalOf l kind s m ≡ done → firstOf (admissionTests l) ≡ done
-  refusal-admits e = elim (ℕ-discrete (firstOf (admissionTests l)) done) [
-    | yes z ↦ z
-    | no n ↦ absurd (n (refusal-lent (firstOf (admissionTests l)) refl n ∙ e))
-  ]
+  unfolding refusalOf
+  refusal-admits e = table-passes l (ownTests l kind s m) e
 
   pub accepted : refusalOf l kind s m ≡ done → Accepted l kind s m
   accepted e =

@@ -5,18 +5,14 @@ use mathlib.Core.Path.{_≡_, refl, sym, ap, _∙_}
 use mathlib.Core.Bool.{Bool, true, false, not}
 use mathlib.Core.List.{List, [], _∷_}
 use native.Mathlib.Omega.{arith}
-use lib.Dec.{eqb}
 use lib.ListN.{length}
-use borrow.Author.Tests.{eq-eqb, ne-eqb, eqb-true}
-use Rattle.places.specs.Choice.{pick}
 use Rattle.refusals.specs.Refusal.{Test, LOOSE, done, firstOf}
-use Rattle.refusals.specs.First.{first-append}
 use Rattle.table.specs.Record.{recordOf}
 use Rattle.table.specs.Table.{rightSize, recordsIn}
 use Rattle.table.specs.Stands.{right-are, right-most}
 use Rattle.judge.specs.Decided.{formed-decided}
 use Rattle.judge.specs.Readable.{Readable}
-use Rattle.admission.specs.Admission.{admissionTests, admitted-readable}
+use Rattle.admission.specs.Admission.{admissionTests, admitted-readable, table-refuses, own-first, table-passes}
 use Rattle.view.specs.Shaped.{shaped-bytes}
 use Rattle.view.specs.Readable.{readable-formed, readable-shaped}
 use Rattle.view.specs.Sound.{SoundTable}
@@ -30,18 +26,10 @@ module _ (l : List ℕ) where
   abbrev loose : List Test
   loose = (not (isSound (recordsIn l) (recordOf l)), LOOSE) ∷ []
 
-  by-admission :
-      (t : Bool)
-      → eqb (firstOf (admissionTests l)) done ≡ t
-      → checkOf l ≡ pick t (firstOf loose) (firstOf (admissionTests l))
-  unfolding checkOf
-  by-admission t e =
-      first-append (admissionTests l) loose refl
-      ∙ ap (λ (b : Bool). pick b (firstOf loose) (firstOf (admissionTests l))) e
-
   -- a table that is refused before it is looked through
   pub check-refused : (firstOf (admissionTests l) ≡ done → ⊥) → checkOf l ≡ firstOf (admissionTests l)
-  check-refused ne = by-admission false (ne-eqb (firstOf (admissionTests l)) done ne)
+  unfolding checkOf
+  check-refused ne = table-refuses l loose ne
 
   module _ (admitted : firstOf (admissionTests l) ≡ done) where
     readable : Readable l
@@ -53,9 +41,9 @@ module _ (l : List ℕ) where
 
     -- and decides
     decided : (t : Bool) → route (recordsIn l) (recordOf l) ≡ t → checkOf l ≡ firstOf ((not t, LOOSE) ∷ [])
+    unfolding checkOf
     decided t e =
-        by-admission true (eq-eqb (firstOf (admissionTests l)) done admitted)
-        ∙ ap (λ (b : Bool). firstOf ((not b, LOOSE) ∷ [])) (sym route-sound ∙ e)
+        own-first l loose admitted ∙ ap (λ (b : Bool). firstOf ((not b, LOOSE) ∷ [])) (sym route-sound ∙ e)
 
     pub check-loose : route (recordsIn l) (recordOf l) ≡ false → checkOf l ≡ LOOSE
     check-loose = decided false
@@ -73,19 +61,16 @@ passed false e = absurd (omega arith)
 module _ (l : List ℕ) where
   -- a check that is done was of a table that was admitted
   done-admitted : checkOf l ≡ done → firstOf (admissionTests l) ≡ done
-  done-admitted e = go (eqb (firstOf (admissionTests l)) done) refl
-    where
-      go : (t : Bool) → eqb (firstOf (admissionTests l)) done ≡ t → firstOf (admissionTests l) ≡ done
-      go true q = eqb-true (firstOf (admissionTests l)) done q
-      go false q = sym (by-admission l false q) ∙ e
+  unfolding checkOf
+  done-admitted e = table-passes l (loose l) e
 
   -- a check that is done saw a sound table
   pub done-sound : checkOf l ≡ done → (rightSize (length l) ≡ true) × SoundTable (recordsIn l) (recordOf l)
+  unfolding checkOf
   done-sound e =
       let admitted = done-admitted e in
       let ok = admitted-readable l admitted in
-      let yes′ = eq-eqb (firstOf (admissionTests l)) done admitted in
-      let sound = passed (isSound (recordsIn l) (recordOf l)) (sym (by-admission l true yes′) ∙ e) in
+      let sound = passed (isSound (recordsIn l) (recordOf l)) (sym (own-first l (loose l) admitted) ∙ e) in
       (ok .size, sound-decided (right-most l (ok .size)) (readable-shaped ok) (readable-formed ok) .shows sound)
 
   -- and on a sound table it is done

@@ -22,7 +22,7 @@ use Rattle.table.specs.Fitting.{Fitting, FittingRow, record-fits}
 
 -- ---- numbers, one after another
 
-numbers-length : (vs : List ℕ) → length (numbers 2 vs) ≡ 2 * length vs
+pub numbers-length : (vs : List ℕ) → length (numbers 2 vs) ≡ 2 * length vs
 numbers-length [] = refl
 numbers-length (v ∷ vs) = omega (arith, numbers-length vs)
 
