@@ -1,15 +1,20 @@
 #!/usr/bin/env bash
 # Installs the library for C: bash tools/install.sh PREFIX puts the header, the static and the shared library and a file
 # for pkg-config under PREFIX, or under $DESTDIR/PREFIX where a package is made of it. The library is proved and built
-# first, unless PLOTVUGA_LIB_DIR names the directory of a libplotvuga.a that is.
+# first, unless a second argument names a libplotvuga.a that was.
 set -eu
-if [ $# -ne 1 ] || [ -z "$1" ] || [ "${1#-}" != "$1" ]; then
-    echo "usage: bash tools/install.sh PREFIX    (for example /usr/local; DESTDIR is put before it where it is set)" >&2
-    exit 2
-fi
+usage='usage: bash tools/install.sh PREFIX [LIBRARY]
+  PREFIX   where include/ and lib/ are, such as /usr/local; DESTDIR is put before it where that is set
+  LIBRARY  a libplotvuga.a to install; without it, it is proved and built'
+case ${1:-} in
+-h | --help) echo "$usage"; exit 0 ;;
+'' | -*) echo "$usage" >&2; exit 2 ;;
+esac
+[ $# -le 2 ] || { echo "$usage" >&2; exit 2; }
 whole() { case $1 in '' | /*) printf %s "$1" ;; *) printf %s "$PWD/$1" ;; esac; }
 prefix=$(whole "${1%/}")
 to=$(whole "${DESTDIR:-}")$prefix
+static=$(whole "${2:-}")
 cd "$(dirname "$0")/.."
 
 part() { sed -nE "s/^#define PLOTVUGA_VERSION_$1 ([0-9]+)\$/\1/p" include/plotvuga.h; }
@@ -19,14 +24,13 @@ version=$major.$(part MINOR).$(part PATCH)
 soname=libplotvuga.so.$major
 shared=libplotvuga.so.$version
 
-if [ -z "${PLOTVUGA_LIB_DIR:-}" ]; then
+if [ -z "$static" ]; then
     echo "proving and building the library: 3 to 4 minutes on two cores the first time, seconds after that"
     mkdir -p target
     rt staticlib plotvuga >target/install.log 2>&1 || { cat target/install.log >&2; exit 1; }
-    PLOTVUGA_LIB_DIR=$PWD/target/staticlib
+    static=$PWD/target/staticlib/libplotvuga.a
 fi
-static=$PLOTVUGA_LIB_DIR/libplotvuga.a
-[ -f "$static" ] || { echo "no $static: rt staticlib plotvuga builds it" >&2; exit 1; }
+[ -f "$static" ] || { echo "no $static" >&2; exit 1; }
 
 work=$(mktemp -d)
 trap 'rm -rf "$work"' EXIT

@@ -7,8 +7,9 @@ cd "$(dirname "$0")/.."
 repository=$PWD
 passed=0 failed=0
 export PLOTVUGA_LIB_DIR=${PLOTVUGA_LIB_DIR:-$PWD/target/staticlib} CARGO_NET_OFFLINE=true CARGO_TERM_COLOR=never
-[ -f "$PLOTVUGA_LIB_DIR/libplotvuga.a" ] || {
-    echo "no $PLOTVUGA_LIB_DIR/libplotvuga.a: rt staticlib plotvuga builds it"
+lib=$PLOTVUGA_LIB_DIR/libplotvuga.a
+[ -f "$lib" ] || {
+    echo "no $lib: rt staticlib plotvuga builds it"
     echo "0 passed, 1 failed"
     exit 1
 }
@@ -34,11 +35,11 @@ readme() { sed -nE "s/^ {4}($1.*)\$/\1/p" "$repository/README.md" | sed 's/ *  #
 # Runs what was built and compares what it prints.
 prints() { "$@" | diff -u "$repository/examples/first.expected" -; }
 
-step "install" bash tools/install.sh "$PREFIX"
+step "install" bash tools/install.sh "$PREFIX" "$lib"
 step "the calls of the header can be seen, and nothing else" diff \
     <(grep -oE '^uint32_t plotvuga_[a-z]+' include/plotvuga.h | cut -d' ' -f2 | sort) \
     <(nm -D --defined-only "$PREFIX/lib/libplotvuga.so" | awk '{ print $3 }' | sort)
-step "for a package" env DESTDIR="$work/package" bash tools/install.sh /opt/plotvuga
+step "for a package" env DESTDIR="$work/package" bash tools/install.sh /opt/plotvuga "$lib"
 step "the package's prefix" grep -qx 'prefix=/opt/plotvuga' "$work/package/opt/plotvuga/lib/pkgconfig/plotvuga.pc"
 
 mkdir "$work/c"
