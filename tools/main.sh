@@ -3,6 +3,8 @@
 # proved and built first, and again whenever its sources have changed.
 set -u
 cd "$(dirname "$0")/.."
+# rt waits for a whole batch before it begins the next: twice as many as there are cores keep them busy to its end.
+export RT_JOBS=${RT_JOBS:-$((2 * $(nproc)))}
 
 # rt's lines as they come: a line for each crate, and what the prover has to say of what it does not accept. rt tells a
 # crate when all that it began with it have ended.
