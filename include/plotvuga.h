@@ -15,7 +15,7 @@
  * A record. Its place in the table is its slot, counted from 0. Nobody needs these fields to use the calls; they are
  * here for whoever looks at the bytes.
  *     0-3    card, 1 to 4,294,967,295
- *     4-7    timestamp, 1 to 4,294,967,295: the order in which records were hung into the tree
+ *     4-7    timestamp, 1 to 4,294,967,295; of two records the younger has the larger
  *     8-11   covering radius: how far the cards below may be; any value
  *     12-13  the parent's slot, 65,535 for the root
  *     14     how many children, 0 to 8
@@ -26,9 +26,9 @@
  *
  * Well formed: the bytes are one tree. Each record is free or has every field as above; no card and no timestamp stands
  * twice; all cards are of one kind. If any record is used, one of them, and no other, is the root. Every other used
- * record is younger than its parent and stands once among that parent's children. A child names the record that it
- * stands in as its parent, and children stand oldest first. Every call but clear judges all this before anything else
- * and refuses a table that is not well formed with PLOTVUGA_TABLE, so bytes from an untrusted place can do no harm.
+ * record is younger than its parent and stands once among that parent's children. Every child of a record has that
+ * record as its parent, and children stand oldest first. Every call but clear judges all this before anything else and
+ * refuses a table that is not well formed with PLOTVUGA_TABLE, so bytes from an untrusted place can do no harm.
  *
  * Sound: well formed, and what a search leaves out can't hold a near card. A record's covering radius is at least its
  * distance to every card below it; and a card is no farther from a record above it than from those of that record's
@@ -48,7 +48,7 @@
  *
  * Time. Every call returns, within a time that the table's length bounds, whatever its bytes are. With 1,024 records
  * an insert, a search, cards or card takes some 10 to 40 microseconds on a core of 2.5 GHz, most of it to judge the
- * table; a check, or a delete that puts many records back, up to half a millisecond. The worst shape is a chain, which
+ * table; a check, or a delete that puts many records back, about half a millisecond. The worst shape is a chain, which
  * arity 1 makes: a search takes less than 0.1 milliseconds there, a check or a delete of its root some 5 to 10.
  * docs/PERFORMANCE.md has what was measured.
  */
@@ -102,9 +102,10 @@ enum plotvuga_refusal {
     PLOTVUGA_ABSENT = 6,         /* delete, card: the card is not stored */
     PLOTVUGA_FULL = 7,           /* insert: no record is free. Delete a card; or lend a longer table, the same bytes
                                     with zeros behind them; or, at 1,024 records, begin a second table */
-    PLOTVUGA_CLOCK = 8,          /* insert, delete: a fresh timestamp would pass 4,294,967,295. Store the cards anew in
-                                    a cleared table (plotvuga_cards, plotvuga_card, plotvuga_insert): its timestamps
-                                    begin at 1. An insert uses up one, a delete one for each record that it puts back */
+    PLOTVUGA_CLOCK = 8,          /* insert, delete: a fresh timestamp would pass 4,294,967,295. An insert takes the one
+                                    after the largest in use, a delete one more for each record that it puts back.
+                                    Store the cards anew in a cleared table (plotvuga_cards, plotvuga_card,
+                                    plotvuga_insert): its timestamps begin at 1 */
     PLOTVUGA_SHORT = 9,          /* search, cards: list_len is less than the number of stored cards;
                                     card: row_len is less than 32 */
     PLOTVUGA_LOOSE = 10          /* check: the table is well formed but not sound. Store its cards anew as for CLOCK */
