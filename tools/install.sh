@@ -25,7 +25,7 @@ soname=libplotvuga.so.$major
 shared=libplotvuga.so.$version
 
 if [ -z "$static" ]; then
-    echo "proving and building the library: 3 to 4 minutes on two cores the first time, seconds after that"
+    echo "proving and building the library: some 3 minutes on two cores the first time, seconds after that"
     mkdir -p target
     rt staticlib plotvuga >target/install.log 2>&1 || { cat target/install.log >&2; exit 1; }
     static=$PWD/target/staticlib/libplotvuga.a

@@ -24,7 +24,7 @@ readable() {
 echo "What it needs:"
 bash tools/setup.sh | sed 's/^/  /'
 [ "${PIPESTATUS[0]}" -eq 0 ] || exit 1
-echo "The bench program, with every crate below it: 3 to 4 minutes on two cores the first time, seconds after that:"
+echo "The bench program, with every crate below it: some 3 minutes on two cores the first time, seconds after that:"
 RT_CUT=${RT_CUT:-400} rt check bench 2>&1 | readable
 if [ "${PIPESTATUS[0]}" -ne 0 ]; then
     echo "The bench program is not proved, so it is not run; target/log has all that the prover said." >&2
