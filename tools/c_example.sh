@@ -7,6 +7,7 @@ passed=0 failed=0
 lib=${PLOTVUGA_LIB_DIR:-$PWD/target/staticlib}/libplotvuga.a
 out=target/c_example
 mkdir -p "$out"
+rm -f "$out/listing" "$out/listing.out" # so that nothing of an earlier run is compared
 
 step() { # NAME COMMAND..
     local name=$1
@@ -26,6 +27,13 @@ for std in c99 c11 c17; do
     step "header in $std" sh -c "printf '#include \"plotvuga.h\"\n#include \"plotvuga.h\"\n' |
         gcc -x c -std=$std -Wall -Wextra -Wpedantic -Wstrict-prototypes -Werror -Iinclude -fsyntax-only -"
 done
+# .. and in C++, whose programs it serves as well.
+if command -v g++ >/dev/null; then
+    step "header in C++" sh -c "printf '#include \"plotvuga.h\"\n#include \"plotvuga.h\"\n' |
+        g++ -x c++ -std=c++11 -Wall -Wextra -Wpedantic -Werror -Iinclude -fsyntax-only -"
+else
+    echo "no g++ here: the header is not tried in C++"
+fi
 step "compile" gcc -std=c99 -O1 -g -Wall -Wextra -Wpedantic -Wstrict-prototypes -Werror -Iinclude -o "$out/listing" \
     examples/c/listing.c "$lib"
 step "run" sh -c "'$out/listing' >'$out/listing.out'"

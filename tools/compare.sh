@@ -1,6 +1,8 @@
 #!/usr/bin/env bash
 # Compares the proved code with the independent model in rust/: the model's own tests, then the library's parts through
 # their C functions, then the library whole from C and from Rust, then the bench program, each over a fixed, seeded set.
+# Before that the Rust code's documentation and lints, for which no library has to be there, and in between what a
+# stranger does with the library, outside the repository.
 # Longer runs with a seed of one's own: rust/README.md. What crates.txt does not list yet is told and left out.
 set -u
 cd "$(dirname "$0")/.."
@@ -38,6 +40,26 @@ built() { # CRATE COMMAND..
 
 in_rust() { (cd rust && "$@"); }
 
+# A command that only passes or fails, as one step. It is to need no library: an empty directory is named for it.
+bare() { # COMMAND..
+    local none
+    none=$(mktemp -d)
+    echo "+ $*"
+    if in_rust env PLOTVUGA_LIB_DIR="$none" "$@"; then
+        passed=$((passed + 1))
+    else
+        failed=$((failed + 1))
+        echo "FAILED: $*"
+    fi
+    rmdir "$none"
+}
+
+bare env RUSTDOCFLAGS=-Dwarnings cargo doc -q --workspace --no-deps
+if cargo clippy --version >"$log" 2>&1; then
+    bare cargo clippy -q --workspace --all-targets -- -D warnings
+else
+    echo "this Rust has no clippy: the lints are not tried"
+fi
 run in_rust cargo test --release -q
 run in_rust cargo test --release -q -p probe --features stub
 if built probe rt staticlib probe; then
@@ -45,6 +67,7 @@ if built probe rt staticlib probe; then
 fi
 if built plotvuga rt staticlib plotvuga; then
     run bash tools/c_example.sh
+    run bash tools/outside.sh
     run bash tools/stack.sh
     run in_rust cargo test --release -q -p plotvuga
     run in_rust cargo test --release -q -p histories

@@ -17,7 +17,7 @@ enum { STACK = 4 * 1024 * 1024, PAINT = 0xa7 };
 static uint8_t table[PLOTVUGA_RECORDS * PLOTVUGA_RECORD];
 static uint8_t start[sizeof table];
 static uint32_t list[PLOTVUGA_RECORDS];
-static uint8_t signature[PLOTVUGA_SIGNATURE];
+static uint8_t signature[PLOTVUGA_SIGNATURE], row[PLOTVUGA_SIGNATURE], kind;
 static uint32_t card, refusal, count, found;
 
 static void *nothing(void *unused)
@@ -56,6 +56,18 @@ static void *check(void *unused)
     return unused;
 }
 
+static void *list_all(void *unused)
+{
+    refusal = plotvuga_cards(table, sizeof table, list, PLOTVUGA_RECORDS, &found);
+    return unused;
+}
+
+static void *tell_one(void *unused)
+{
+    refusal = plotvuga_card(table, sizeof table, card, row, sizeof row, &kind);
+    return unused;
+}
+
 /* The bytes of stack that a thread of this work needs. */
 static size_t used(void *(*work)(void *))
 {
@@ -85,7 +97,7 @@ static void measure(const char *name, void *(*work)(void *), uint32_t expected)
         printf("%s: refusal %u and not %u\n", name, (unsigned)refusal, (unsigned)expected);
         exit(2);
     }
-    printf("%-45s %7zu bytes\n", name, bytes);
+    printf("%-52s %7zu bytes\n", name, bytes);
     if (bytes > most)
         most = bytes;
 }
@@ -122,6 +134,11 @@ static void measure_all(const char *name, int crowded)
     measure(line, search, PLOTVUGA_DONE);
     snprintf(line, sizeof line, "check, %s", name);
     measure(line, check, PLOTVUGA_DONE);
+    snprintf(line, sizeof line, "cards, %s", name);
+    measure(line, list_all, PLOTVUGA_DONE);
+    card = last;
+    snprintf(line, sizeof line, "card, %s", name);
+    measure(line, tell_one, PLOTVUGA_DONE);
 }
 
 int main(void)

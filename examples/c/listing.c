@@ -1,23 +1,31 @@
 /*
- * The paper's listing through the C functions, then each refusal once. A line for each call, as the bench program
- * prints them: the call's number, its refusal, its distance count, the cards found, and the cards.
+ * The paper's listing through the C functions, then what is stored, then each refusal once. A line for each call, as
+ * the bench program prints them: the call's number, its refusal, its distance count, the cards found, and the cards.
+ * After the listing a refused call's line ends with what the refusal says.
  */
 #include <stdio.h>
 #include <string.h>
 
 #include "plotvuga.h"
 
+#if PLOTVUGA_VERSION < 10100
+#error "plotvuga_cards and plotvuga_card came with 1.1.0"
+#endif
+
 enum { PLACES = 512 };
 
 static uint8_t table[PLACES * PLOTVUGA_RECORD];
 static uint32_t list[PLACES];
 static unsigned calls;
+static int in_words; /* whether a refusal is told in words, too */
 
 static void line(uint32_t refusal, uint32_t count, uint32_t found)
 {
     printf("%u %u %u %u", ++calls, (unsigned)refusal, (unsigned)count, (unsigned)found);
     for (uint32_t i = 0; i < found; i++)
         printf(" %u", (unsigned)list[i]);
+    if (in_words && refusal != PLOTVUGA_DONE)
+        printf(" %s", plotvuga_refusal_text(refusal));
     putchar('\n');
 }
 
@@ -65,6 +73,27 @@ static void listing(void)
     line(plotvuga_check(table, sizeof table), 0, 0);
 }
 
+static void tell(uint32_t card, size_t room)
+{
+    static uint8_t row[PLOTVUGA_SIGNATURE];
+    uint8_t kind;
+    uint32_t refusal = plotvuga_card(table, sizeof table, card, row, room, &kind);
+    line(refusal, 0, 0);
+    if (refusal == PLOTVUGA_DONE)
+        printf("card %u: kind %u, reading 0 is %u\n", (unsigned)card, kind, row[0] + 256u * row[1]);
+}
+
+/* What is stored: the cards in slot order, how much room is left, and what each was stored with. */
+static void stored(void)
+{
+    uint32_t found;
+    uint32_t refusal = plotvuga_cards(table, sizeof table, list, PLACES, &found);
+    line(refusal, 0, found);
+    printf("%u records are free\n", (unsigned)(sizeof table / PLOTVUGA_RECORD - found));
+    for (uint32_t i = 0; i < found; i++)
+        tell(list[i], PLOTVUGA_SIGNATURE);
+}
+
 /* Refusals 7 and 8, in tables of one record and of two. */
 static void small_tables(void)
 {
@@ -83,6 +112,22 @@ static void small_tables(void)
     memcpy(two, one, sizeof one);
     refusal = plotvuga_insert(two, sizeof two, 12, PLOTVUGA_FAULTS, 1, reading(1), PLOTVUGA_SIGNATURE, &count);
     line(refusal, count, 0);
+}
+
+/* Refusals 9 and 10, of calls that read. */
+static void late_refusals(void)
+{
+    /* 9 SHORT: five cards are stored; a signature has 32 bytes. */
+    search(48, 5, 4);
+    search(48, 5, 5);
+    uint32_t found = 0xffffffff;
+    uint32_t refusal = plotvuga_cards(table, sizeof table, list, 4, &found);
+    line(refusal, 0, found);
+    tell(11, 31);
+
+    /* 10 LOOSE: a covering radius that does not reach all below. */
+    table[8] -= 1;
+    line(plotvuga_check(table, sizeof table), 0, 0);
 }
 
 /* Each refusal by its number, 1 to 10. Counts are lent full of ones, and a refusal sets them to 0. */
@@ -115,16 +160,13 @@ static void refusals(void)
     /* 5 TWICE, 6 ABSENT. */
     insert(11, 1, 2);
     delete(12);
+    tell(12, PLOTVUGA_SIGNATURE);
 
     small_tables();
+    late_refusals();
 
-    /* 9 SHORT: five cards are stored. */
-    search(48, 5, 4);
-    search(48, 5, 5);
-
-    /* 10 LOOSE: a covering radius that does not reach all below. */
-    table[8] -= 1;
-    line(plotvuga_check(table, sizeof table), 0, 0);
+    /* Numbers that are no refusal have words, too. */
+    printf("%s\n%s\n", plotvuga_refusal_text(PLOTVUGA_DONE), plotvuga_refusal_text(PLOTVUGA_LOOSE + 1));
 }
 
 int main(void)
@@ -133,6 +175,8 @@ int main(void)
     if (plotvuga_clear(table, sizeof table) != PLOTVUGA_DONE)
         return 1;
     listing();
+    in_words = 1;
+    stored();
     refusals();
     return 0;
 }

@@ -1,5 +1,6 @@
 //! Links the proved library, `libplotvuga.a`: from the directory that PLOTVUGA_LIB_DIR names, or from the repository's
-//! own `target/staticlib`, where `rt staticlib plotvuga` puts it.
+//! own `target/staticlib`, where `rt staticlib plotvuga` puts it. Documentation and lints need no library, so a missing
+//! one is told only where something is linked.
 
 use std::path::PathBuf;
 
@@ -11,20 +12,16 @@ fn main() {
     };
     // Cargo runs this in the package's directory and the linker elsewhere, so a relative path would mean two things.
     if !directory.is_absolute() {
-        fail(&format!("PLOTVUGA_LIB_DIR is {}: give the whole path from /", directory.display()));
+        eprintln!("error: PLOTVUGA_LIB_DIR is {}: give the whole path from /", directory.display());
+        std::process::exit(1);
     }
     let library = directory.join("libplotvuga.a");
-    if !library.is_file() {
-        fail(&format!("{} holds no libplotvuga.a", directory.display()));
-    }
     println!("cargo:rerun-if-changed={}", library.display());
     println!("cargo:rustc-link-search=native={}", directory.display());
-    println!("cargo:rustc-link-lib=static=plotvuga");
+    println!("cargo:rustc-link-lib=static={}", if library.is_file() { "plotvuga" } else { MISSING });
 }
 
-fn fail(why: &str) -> ! {
-    eprintln!(
-        "error: {why}\n(`rt staticlib plotvuga` builds it in target/staticlib, where it is looked for unless told)"
-    );
-    std::process::exit(1);
-}
+/// Linked in place of a library that is not there. The compiler looks for it only when it links, does not find it, and
+/// says so by this name: what to do stands in it. A colon would end the name.
+const MISSING: &str = "plotvuga (run 'rt staticlib plotvuga' in the repository, or set PLOTVUGA_LIB_DIR to the folder \
+                       that holds libplotvuga.a)";

@@ -1,29 +1,31 @@
-//! Finds the proved library's `libprobe.a` in the directory that PLOTVUGA_LIB_DIR names and links it.
+//! Links the proved library's `libprobe.a` from the directory that PLOTVUGA_LIB_DIR names. Documentation and lints need
+//! no library, so a missing one is told only where something is linked.
 
-use std::path::Path;
+use std::path::PathBuf;
 
 fn main() {
     println!("cargo:rerun-if-env-changed=PLOTVUGA_LIB_DIR");
     if std::env::var_os("CARGO_FEATURE_STUB").is_some() {
         return;
     }
-    let Ok(directory) = std::env::var("PLOTVUGA_LIB_DIR") else {
-        fail("PLOTVUGA_LIB_DIR is not set: name the directory that holds libprobe.a");
-    };
+    let named = std::env::var_os("PLOTVUGA_LIB_DIR").map(PathBuf::from);
     // Cargo runs this in the package's directory and the linker elsewhere, so a relative path would mean two things.
-    let library = Path::new(&directory).join("libprobe.a");
-    if !library.is_absolute() {
-        fail(&format!("PLOTVUGA_LIB_DIR is {directory}: give the whole path from /"));
+    if let Some(relative) = named.as_ref().filter(|directory| !directory.is_absolute()) {
+        eprintln!("error: PLOTVUGA_LIB_DIR is {}: give the whole path from /", relative.display());
+        std::process::exit(1);
     }
-    if !library.is_file() {
-        fail(&format!("PLOTVUGA_LIB_DIR is {directory}, which holds no libprobe.a"));
+    let library = named.as_ref().map(|directory| directory.join("libprobe.a"));
+    if let Some(library) = &library {
+        println!("cargo:rerun-if-changed={}", library.display());
     }
-    println!("cargo:rerun-if-changed={}", library.display());
-    println!("cargo:rustc-link-search=native={directory}");
-    println!("cargo:rustc-link-lib=static=probe");
+    let there = library.is_some_and(|library| library.is_file());
+    if let Some(directory) = named {
+        println!("cargo:rustc-link-search=native={}", directory.display());
+    }
+    println!("cargo:rustc-link-lib=static={}", if there { "probe" } else { MISSING });
 }
 
-fn fail(why: &str) -> ! {
-    eprintln!("error: {why}\n(to build without the library, for `--self` alone: --features stub)");
-    std::process::exit(1);
-}
+/// Linked in place of a library that is not there. The compiler looks for it only when it links, does not find it, and
+/// says so by this name: what to do stands in it. A colon would end the name.
+const MISSING: &str = "probe (run 'rt staticlib probe' and set PLOTVUGA_LIB_DIR to the whole path of \
+                       target/staticlib, or build without it, for --self alone, by --features stub)";

@@ -11,10 +11,11 @@
 //! Up to sixteen readings, 0 to 65,535; missing ones are 0. A mask is hexadecimal, two digits for a byte, byte 0 first
 //! and in each byte bit 0 lowest, up to 32 bytes; missing ones are 0. Readings and mask end a line; the words before
 //! them stand in any order. `#` begins a comment. Every number that its field can hold is let through, so that the
-//! program's own refusals can be asked for: card 0, arity 9, kind 3.
+//! program's own refusals can be asked for: card 0, arity 9, kind 3. `cards`, the program, skips a byte order mark
+//! before the first line.
 
 mod line;
 mod record;
 
-pub use line::{command, Fault};
+pub use line::{command, shown, Fault};
 pub use record::{Command, Operation, RECORD};

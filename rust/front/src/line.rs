@@ -17,6 +17,18 @@ fn fault<T>(what: impl Into<String>) -> Result<T, Fault> {
     Err(Fault(what.into()))
 }
 
+/// How much of a word is shown: whoever typed it knows it by its start, and a file that is no text may have one of
+/// megabytes.
+const SHOWN: usize = 40;
+
+/// A word of the input in quotes, cut where it is long; what is no ordinary character is shown by its number.
+pub fn shown(word: &str) -> String {
+    match word.char_indices().nth(SHOWN) {
+        None => format!("{word:?}"),
+        Some((end, _)) => format!("{:?}..", &word[..end]),
+    }
+}
+
 /// The command of a line; none for a blank one or a comment.
 pub fn command(line: &str) -> Result<Option<Command>, Fault> {
     let text = line.split('#').next().unwrap_or_default();
@@ -27,7 +39,7 @@ pub fn command(line: &str) -> Result<Option<Command>, Fault> {
         "delete" => Operation::Delete,
         "search" => Operation::Search,
         "check" => Operation::Check,
-        other => return fault(format!("{other:?} is no operation; these are: insert, delete, search, check")),
+        other => return fault(format!("{} is no operation; these are: insert, delete, search, check", shown(other))),
     };
     let mut fields = Fields::default();
     if matches!(operation, Operation::Insert | Operation::Delete) {
@@ -60,8 +72,8 @@ fn takes(operation: Operation) -> &'static [&'static str] {
 
 fn not_taken(first: &str, operation: Operation, word: &str) -> String {
     match takes(operation) {
-        [] => format!("{first} stands alone, and here is {word:?}"),
-        words => format!("{first} takes {}, and here is {word:?}", words.join(", ")),
+        [] => format!("{first} stands alone, and here is {}", shown(word)),
+        words => format!("{first} takes {}, and here is {}", words.join(", "), shown(word)),
     }
 }
 
@@ -120,7 +132,7 @@ fn number<T: TryFrom<u64>>(name: &str, word: Option<&str>) -> Result<T, Fault> {
     let Some(word) = word else { return fault(format!("{name} needs a number, 0 to {last}")) };
     let digits = word.bytes().all(|byte| byte.is_ascii_digit());
     let value = digits.then(|| word.parse().ok()).flatten().and_then(|value: u64| T::try_from(value).ok());
-    value.map_or_else(|| fault(format!("{name} is a number from 0 to {last}, and here is {word:?}")), Ok)
+    value.map_or_else(|| fault(format!("{name} is a number from 0 to {last}, and here is {}", shown(word))), Ok)
 }
 
 fn readings<'a>(words: impl Iterator<Item = &'a str>) -> Result<[u8; 32], Fault> {
@@ -128,7 +140,7 @@ fn readings<'a>(words: impl Iterator<Item = &'a str>) -> Result<[u8; 32], Fault>
     let mut many = 0;
     for word in words {
         if many == 16 {
-            return fault(format!("there are sixteen readings, and a seventeenth is here: {word:?}"));
+            return fault(format!("there are sixteen readings, and a seventeenth is here: {}", shown(word)));
         }
         let reading: u16 = number(&format!("reading {many}"), Some(word))?;
         signature[2 * many..2 * many + 2].copy_from_slice(&reading.to_le_bytes());

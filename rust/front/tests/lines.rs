@@ -8,7 +8,13 @@ use std::process::{Command as Process, Output, Stdio};
 
 /// Runs `cards` on this input.
 fn cards(input: &[u8]) -> Output {
+    told(&[], input)
+}
+
+/// Runs `cards` with these arguments on this input.
+fn told(arguments: &[&str], input: &[u8]) -> Output {
     let mut process = Process::new(env!("CARGO_BIN_EXE_cards"))
+        .args(arguments)
         .stdin(Stdio::piped())
         .stdout(Stdio::piped())
         .stderr(Stdio::piped())
@@ -127,6 +133,56 @@ fn a_bad_line_ends_it_with_its_number_and_nothing_of_it_written() {
     let output = cards(b"check\n\xff\xfe\n");
     assert_eq!((output.status.code(), output.stdout.len()), (Some(1), front::RECORD));
     assert_eq!(String::from_utf8(output.stderr).unwrap(), "cards: line 2: not text\n");
+}
+
+#[test]
+fn a_long_word_is_shown_by_its_start() {
+    for before in ["", "insert ", "check ", "delete 12 ", "delete 12 arity ", "search kind 1 radius 5 readings "] {
+        let word = "9".repeat(41);
+        assert!(explained(&format!("{before}{word}")).contains(&format!("\"{}\"..", "9".repeat(40))), "{before}");
+        // Forty are shown whole.
+        assert!(explained(&format!("{before}{}", &word[..40])).contains(&format!("\"{}\"", &word[..40])), "{before}");
+        assert!(!explained(&format!("{before}{}", &word[..40])).contains(".."), "{before}");
+    }
+    let seventeenth = format!("search kind 1 radius 5 readings {} {}", "0 ".repeat(16), "x".repeat(41));
+    assert!(explained(&seventeenth).ends_with("x\".."));
+    // Cut between characters, not in the middle of one.
+    assert!(explained(&"ä".repeat(41)).starts_with(&format!("\"{}\"..", "ä".repeat(40))));
+    let output = cards(&vec![b'x'; 5_000_000]);
+    assert_eq!(output.status.code(), Some(1));
+    assert!(output.stderr.len() < 200, "{} bytes", output.stderr.len());
+}
+
+#[test]
+fn help_goes_to_standard_output() {
+    for option in ["--help", "-h"] {
+        let output = told(&[option], b"");
+        let words = String::from_utf8(output.stdout).unwrap();
+        assert_eq!((output.status.code(), output.stderr.len()), (Some(0), 0));
+        assert!(words.starts_with("usage: cards") && words.ends_with("comment\n"), "{words}");
+    }
+}
+
+#[test]
+fn other_arguments_are_refused_with_status_2() {
+    let long = "-".repeat(5000);
+    for argument in ["--colour", "-x", "lines.txt", "", &long] {
+        let output = told(&[argument], b"check\n");
+        let words = String::from_utf8(output.stderr).unwrap();
+        assert_eq!((output.status.code(), output.stdout.len()), (Some(2), 0));
+        assert!(words.starts_with(&format!("cards: it takes no {}", front::shown(argument))), "{words}");
+        assert!(words.contains("usage: cards") && words.len() < 600, "{words}");
+    }
+}
+
+#[test]
+fn a_byte_order_mark_is_skipped_before_the_first_line_alone() {
+    let output = cards("\u{feff}check\ncheck\n".as_bytes());
+    assert_eq!((output.status.code(), output.stdout.len()), (Some(0), 2 * front::RECORD));
+    assert_eq!(cards("\u{feff}".as_bytes()).status.code(), Some(0));
+    let output = cards("check\n\u{feff}check\n".as_bytes());
+    assert_eq!((output.status.code(), output.stdout.len()), (Some(1), front::RECORD));
+    assert!(String::from_utf8(output.stderr).unwrap().starts_with("cards: line 2: \"\\u{feff}check\" is no operation"));
 }
 
 #[test]

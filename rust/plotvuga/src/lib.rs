@@ -6,6 +6,9 @@
 //! once; that none is missed is proved of every table that these calls have made. Tables may come from anywhere: every
 //! call but clear judges the whole table first, and a [`Refusal`] leaves everything as it was.
 //!
+//! The stack is the caller's to give: 512 KB suffice for every call, and each says how much it takes. A thread that
+//! Rust starts has 2 MB unless told otherwise.
+//!
 //! ```
 //! use plotvuga::{Refusal, Signature, Table};
 //!
@@ -29,6 +32,11 @@
 //!     table.delete(12, 2)?;
 //!     assert_eq!(table.delete(99, 2), Err(Refusal::Absent));
 //!     assert_eq!(table.search(&card(48), 5)?.cards, [11, 14]);
+//!
+//!     // What is stored, with what, and how much room is left.
+//!     assert_eq!(table.cards()?.collect::<Vec<_>>(), [11, 13, 14, 15, 16]);
+//!     assert_eq!(table.card(14)?, card(52));
+//!     assert_eq!((table.stored()?, table.free()?), (5, 507));
 //!     table.check()
 //! }
 //! ```
@@ -42,10 +50,13 @@
 //! plotvuga::insert(&mut table, 7, &faults, 4)?;
 //! let found = plotvuga::search(&table, &plotvuga::Signature::faults([0; 4]), 4, &mut list)?;
 //! assert_eq!(found.cards, [7]);
+//! assert_eq!(plotvuga::cards(&table, &mut list)?, [7]);
+//! assert_eq!(plotvuga::card(&table, 7)?, faults);
 //! # Ok::<(), plotvuga::Refusal>(())
 //! ```
 
 #![deny(unsafe_op_in_unsafe_fn)]
+#![warn(missing_docs)]
 
 mod calls;
 pub mod library;
@@ -53,7 +64,7 @@ mod refusal;
 mod signature;
 mod table;
 
-pub use calls::{check, clear, delete, insert, search, Deleted, Found, Inserted};
+pub use calls::{card, cards, check, clear, delete, free, insert, search, stored, Deleted, Found, Inserted};
 pub use refusal::Refusal;
 pub use signature::{Kind, Signature};
-pub use table::{Cards, Table, MOST_RECORDS, RECORD};
+pub use table::{Cards, Stored, Table, MOST_RECORDS, RECORD};

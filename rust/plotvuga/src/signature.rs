@@ -14,6 +14,11 @@ impl Kind {
     pub fn number(self) -> u8 {
         self as u8
     }
+
+    /// The kind of that number; none but for 1 and 2.
+    pub fn from_number(number: u8) -> Option<Kind> {
+        [Kind::Readings, Kind::Faults].into_iter().find(|kind| kind.number() == number)
+    }
 }
 
 /// Sixteen readings, or a mask of 256 fault bits.
@@ -50,12 +55,26 @@ impl Signature {
         Signature { kind, bytes }
     }
 
+    /// What its bytes mean.
     pub fn kind(&self) -> Kind {
         self.kind
     }
 
+    /// Its bytes, low byte first.
     pub fn bytes(&self) -> &[u8; Signature::BYTES] {
         &self.bytes
+    }
+
+    /// Its sixteen readings; none if it is a mask.
+    pub fn as_readings(&self) -> Option<[u16; 16]> {
+        let reading = |place: usize| u16::from_le_bytes([self.bytes[2 * place], self.bytes[2 * place + 1]]);
+        (self.kind == Kind::Readings).then(|| std::array::from_fn(reading))
+    }
+
+    /// Its fault bits in four words; none if it is readings.
+    pub fn as_faults(&self) -> Option<[u64; 4]> {
+        let word = |place: usize| u64::from_le_bytes(std::array::from_fn(|byte| self.bytes[8 * place + byte]));
+        (self.kind == Kind::Faults).then(|| std::array::from_fn(word))
     }
 }
 

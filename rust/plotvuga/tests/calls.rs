@@ -61,7 +61,7 @@ fn every_refusal_comes_as_its_own_type() {
 }
 
 #[test]
-fn a_refusal_has_a_number_a_name_and_a_reason() {
+fn a_refusal_has_a_number_a_name_and_a_text() {
     let names = ["SIZE", "TABLE", "ARGUMENT", "KIND", "TWICE", "ABSENT", "FULL", "CLOCK", "SHORT", "LOOSE"];
     for (refusal, (number, name)) in Refusal::ALL.into_iter().zip((1..).zip(names)) {
         assert_eq!((refusal.number(), refusal.name()), (number, name));
@@ -70,8 +70,8 @@ fn a_refusal_has_a_number_a_name_and_a_reason() {
     }
     assert_eq!(Refusal::from_number(0), None);
     assert_eq!(Refusal::from_number(11), None);
-    let error: Box<dyn std::error::Error> = Box::new(Refusal::Full);
-    assert_eq!(error.to_string(), "7 FULL: no record is free");
+    let error: Box<dyn std::error::Error> = Box::new(Refusal::Absent);
+    assert_eq!(error.to_string(), "6 ABSENT: the card is not stored");
 }
 
 #[test]
@@ -123,4 +123,15 @@ fn signatures_are_their_bytes() {
     let faults = Signature::from([1, 2, 0, 1 << 63]);
     assert_eq!((faults.bytes()[0], faults.bytes()[8], faults.bytes()[31]), (1, 2, 128));
     assert_eq!((faults.kind(), faults.kind().number()), (Kind::Faults, 2));
+}
+
+#[test]
+fn a_signature_gives_back_what_it_was_made_of() {
+    let numbers: [u16; 16] = std::array::from_fn(|place| 4099 * place as u16);
+    assert_eq!(Signature::readings(numbers).as_readings(), Some(numbers));
+    assert_eq!(Signature::readings(numbers).as_faults(), None);
+    let words = [1, u64::MAX, 0, 0x8000_0000_0000_0002];
+    assert_eq!(Signature::faults(words).as_faults(), Some(words));
+    assert_eq!(Signature::faults(words).as_readings(), None);
+    assert_eq!([0, 1, 2, 3].map(Kind::from_number), [None, Some(Kind::Readings), Some(Kind::Faults), None]);
 }

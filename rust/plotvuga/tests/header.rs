@@ -1,7 +1,8 @@
-//! The numbers of include/plotvuga.h are the wrapper's: two doors to one library must not tell two stories.
+//! The numbers and the words of include/plotvuga.h are the wrapper's: two doors to one library must not tell two
+//! stories.
 
 use plotvuga::{Kind, Refusal, Signature, Table, MOST_RECORDS, RECORD};
-use std::collections::BTreeMap;
+use std::collections::{BTreeMap, BTreeSet};
 
 const HEADER: &str = include_str!("../../../include/plotvuga.h");
 
@@ -12,7 +13,14 @@ fn code(text: &str) -> String {
     pieces.fold(first, |code, piece| code + piece.split_once("*/").expect("every comment ends").1)
 }
 
-/// Every constant of the header by its name, without the prefix that all have.
+/// The prefix of all names of constants, which are told without it below.
+const PREFIX: &str = "PLOTVUGA_";
+
+fn bare(name: &str) -> &str {
+    name.trim().strip_prefix(PREFIX).unwrap_or_else(|| panic!("another prefix: {name:?}"))
+}
+
+/// Every constant that stands in an enum, by its name.
 fn constants() -> BTreeMap<String, u64> {
     let code = code(HEADER);
     let enums = code.split("enum").skip(1).filter_map(|rest| rest.split_once('{')?.1.split_once('}'));
@@ -20,14 +28,18 @@ fn constants() -> BTreeMap<String, u64> {
     let mut all = BTreeMap::new();
     for entry in entries {
         let (name, value) = entry.split_once('=').unwrap_or_else(|| panic!("no number: {entry:?}"));
-        let name = name.trim().strip_prefix("PLOTVUGA_").unwrap_or_else(|| panic!("another prefix: {entry:?}"));
         let number = |factor: &str| -> u64 { factor.trim().parse().unwrap_or_else(|_| panic!("no number: {entry:?}")) };
-        let before = all.insert(name.to_string(), value.split('*').map(number).product());
+        let before = all.insert(bare(name).to_string(), value.split('*').map(number).product());
         assert_eq!(before, None, "{name} stands twice");
     }
-    // Twice more for the guard against being read twice.
-    assert_eq!(code.matches("PLOTVUGA_").count(), all.len() + 2, "a constant that is in no enum");
     all
+}
+
+/// What is defined, by its name: the guard against being read twice, and the version.
+fn defined() -> BTreeMap<String, String> {
+    let code = code(HEADER);
+    let lines = code.lines().filter_map(|line| line.strip_prefix("#define "));
+    lines.map(|line| line.split_once(' ').unwrap_or((line, ""))).map(|(n, v)| (bare(n).into(), v.into())).collect()
 }
 
 /// The wrapper's numbers by the header's names.
@@ -51,6 +63,46 @@ fn the_header_and_the_wrapper_have_the_same_numbers() {
     assert!(header.remove("STACK").is_some());
     header.remove("ARITY");
     assert_eq!(header, wrapper());
+}
+
+#[test]
+fn every_name_of_the_header_is_an_enum_s_or_defined() {
+    let code = code(HEADER);
+    let end = |rest: &str| rest.find(|c: char| !(c.is_ascii_uppercase() || c == '_')).unwrap_or(rest.len());
+    let named: BTreeSet<String> = code.split(PREFIX).skip(1).map(|rest| rest[..end(rest)].to_string()).collect();
+    let known = constants().into_keys().chain(defined().into_keys()).collect();
+    assert_eq!(named, known);
+}
+
+#[test]
+fn the_header_and_the_wrapper_have_the_same_version() {
+    let header = defined();
+    let parts = ["MAJOR", "MINOR", "PATCH"].map(|part| header[&format!("VERSION_{part}")].clone());
+    assert_eq!(parts.join("."), env!("CARGO_PKG_VERSION"));
+}
+
+/// What the header's function returns for each name: the strings after it, joined as C joins them.
+fn texts() -> BTreeMap<String, String> {
+    let code = code(HEADER);
+    let body = code.split_once("switch").expect("a function of texts").1.split_once("\n}").expect("its end").0;
+    let cases = body.split("case ").skip(1).map(|case| case.split("default").next().unwrap_or(case));
+    let text = |case: &str| case.split('"').skip(1).step_by(2).collect::<String>();
+    cases.map(|case| (bare(case.split_once(':').expect("a case has a name").0).to_string(), text(case))).collect()
+}
+
+#[test]
+fn the_header_and_the_wrapper_have_the_same_texts() {
+    let mut header = texts();
+    // Done is no refusal, so the wrapper has no text for it.
+    assert!(header.remove("DONE").is_some());
+    let wrapper = Refusal::ALL.map(|refusal| (refusal.name().to_string(), refusal.text().to_string()));
+    assert_eq!(header, BTreeMap::from(wrapper));
+    // A sentence, to follow a word of the caller's, and not the same for two.
+    let different: BTreeSet<&String> = header.values().collect();
+    assert_eq!(different.len(), Refusal::ALL.len());
+    for text in different {
+        assert!(text.starts_with(|c: char| c.is_ascii_lowercase()) && !text.ends_with('.'), "{text}");
+    }
 }
 
 /// The wrapper takes an arity as a number, so its end is seen by calling.
