@@ -15,7 +15,7 @@ pub struct Model;
 
 impl Model {
     /// The cards of a well-formed table, a parent before its children.
-    pub fn cards(table: &[u8]) -> Vec<u32> {
+    pub fn cards_from_the_root(table: &[u8]) -> Vec<u32> {
         Tree::of(table).nodes().iter().map(|node| node.card).collect()
     }
 }

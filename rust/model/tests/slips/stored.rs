@@ -25,7 +25,7 @@ pub fn cards(slip: Slip, table: &[u8], list: &mut [u32]) -> Answer {
     let answer = Model.cards(table, list);
     let found = answer.found as usize;
     match (slip, answer.refusal) {
-        (Slip::CardsInTreeOrder, DONE) => fill(list, &Model::cards(table)),
+        (Slip::CardsInTreeOrder, DONE) => fill(list, &Model::cards_from_the_root(table)),
         (Slip::CardsWithFree, DONE) => {
             let all: Vec<u32> = parse_table(table).iter().map(|record| record.card).collect();
             fill(list, &all);
@@ -40,7 +40,7 @@ pub fn cards(slip: Slip, table: &[u8], list: &mut [u32]) -> Answer {
             return Answer::refused(SHORT);
         }
         (Slip::FoundWhenShort, SHORT) => return Answer { found: used(table).len() as u32, ..answer },
-        (Slip::CardsWhenShort, SHORT) => fill(list, &Model::cards(table)),
+        (Slip::CardsWhenShort, SHORT) => fill(list, &Model::cards_from_the_root(table)),
         (Slip::CardsNotJudged, TABLE) => {
             let all: Vec<u32> = used(table).iter().map(|record| record.card).collect();
             fill(list, &all);

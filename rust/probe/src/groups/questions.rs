@@ -49,7 +49,7 @@ impl Run<'_> {
 
     /// Cards stored, cards near to those, and cards that no table has.
     fn some_cards(&mut self, table: &[u8]) -> Vec<u32> {
-        let stored = Model::cards(table);
+        let stored = Model::cards_from_the_root(table);
         let mut cards = vec![0, 1, u32::MAX, self.random.number()];
         for _ in 0..3 {
             if let Some(card) = self.random.any(&stored) {
