@@ -15,7 +15,7 @@ use mir.Val.{boolByte}
 use borrow.Author.Tests.{leb-true, le-leb, lt-leb, eq-eqb, ne-eqb}
 use Rattle.places.specs.Choice.{pick}
 use Rattle.places.specs.Cases.{either, equal-or, below-or}
-use Rattle.places.specs.Laid.{laid as laid-front}
+use Rattle.places.specs.Fill.{from-start}
 use Rattle.places.specs.Test.{countTo, count-grows}
 use Rattle.table.specs.Record.{Record, Used, used}
 use Rattle.survey.specs.Survey.{usedIn}
@@ -139,18 +139,18 @@ module _ (R : ℕ → Record) where
   -- ---- the loop
 
   -- the cards of the first s slots are the list's first entries, and the entries from `most` on are as they were
-  pub record Laid (most : ℕ) (before : List ℕ) (s found : ℕ) (list : List ℕ) : Type 0 where
+  pub record CardsLaid (most : ℕ) (before : List ℕ) (s found : ℕ) (list : List ℕ) : Type 0 where
     pub many : found ≡ usedIn s R
     pub long : length list ≡ length before
     pub cards : take found list ≡ cardsIn s R
     pub later : drop most list ≡ drop most before
 
   module _ (most : ℕ) (before : List ℕ) (room : most ≤ length before) where
-    pub laid-none : Laid most before 0 0 before
+    pub laid-none : CardsLaid most before 0 0 before
     laid-none =
         record { many = sym used-none; long = refl; cards = sym cards-none; later = refl }
 
-    module _ (s found : ℕ) (list : List ℕ) (laid : Laid most before s found list) (left : found < most) where
+    module _ (s found : ℕ) (list : List ℕ) (laid : CardsLaid most before s found list) (left : found < most) where
       -- a slot is left
       pub slot-left : (n : ℕ) → most ≡ usedIn n R → s < n
       slot-left n e =
@@ -159,7 +159,7 @@ module _ (R : ℕ → Record) where
           (λ h. absurd (omega (arith, used-grows n s h, laid .many)))
 
       -- with its card, or without
-      laid-used : Used (R s) → Laid most before (suc s) (suc found) (set list found (R s .card))
+      laid-used : Used (R s) → CardsLaid most before (suc s) (suc found) (set list found (R s .card))
       laid-used u =
           record {
             many = ap suc (laid .many) ∙ sym (used-one s u);
@@ -171,7 +171,7 @@ module _ (R : ℕ → Record) where
             later = drop-set-lt most list found (R s .card) left ∙ laid .later;
           }
 
-      laid-free : R s .card ≡ 0 → Laid most before (suc s) found (set list found (R s .card))
+      laid-free : R s .card ≡ 0 → CardsLaid most before (suc s) found (set list found (R s .card))
       laid-free z =
           record {
             many = laid .many ∙ sym (used-zero s z);
@@ -184,9 +184,9 @@ module _ (R : ℕ → Record) where
       pub laid-more :
           (card : ℕ)
           → card ≡ R s .card
-          → Laid most before (s + 1) (found + boolByte (not (eqb card 0))) (set list found card)
+          → CardsLaid most before (s + 1) (found + boolByte (not (eqb card 0))) (set list found card)
       laid-more card e =
-          by-card (Laid most before (s + 1) (found + boolByte (not (eqb card 0))) (set list found card)) s
+          by-card (CardsLaid most before (s + 1) (found + boolByte (not (eqb card 0))) (set list found card)) s
           (λ u.
           let more : found + boolByte (not (eqb card 0)) ≡ suc found =
           ap (λ (t : Bool). found + boolByte (not t)) (ne-eqb card 0 (λ z. omega (arith, e, z))) ∙ add-one found in
@@ -202,7 +202,7 @@ module _ (R : ℕ → Record) where
         → most ≡ usedIn n R
         → s ≤ n
         → most ≤ found
-        → Laid most before s found list
+        → CardsLaid most before s found list
         → list ≡ sets before 0 (cardsIn n R)
     laid-all n s found list e within all laid =
         let same : found ≡ most = omega (arith, used-grows s n within, laid .many) in
@@ -212,4 +212,4 @@ module _ (R : ℕ → Record) where
         ∙ ap₂ (λ (a b : List ℕ). a ++ b)
         (ap (λ (k : ℕ). take k list) (sym same) ∙ laid .cards ∙ cs)
         (laid .later ∙ ap (λ (k : ℕ). drop k before) (sym long))
-        ∙ sym (laid-front (cardsIn n R) before (omega (arith, long)))
+        ∙ sym (from-start (cardsIn n R) before (omega (arith, long)))

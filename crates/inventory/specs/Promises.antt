@@ -8,7 +8,7 @@ use native.Mathlib.Omega.{arith}
 use native.Mathlib.Decide.{ℕ-discrete}
 use lib.ListN.{length, take, drop}
 use lib.Seq.{take-append-seam, drop-append-seam}
-use Rattle.places.specs.Laid.{laid}
+use Rattle.places.specs.Fill.{from-start}
 use Rattle.number.specs.Frame.{Bytes}
 use Rattle.distance.specs.Signature.{readingsAt}
 use Rattle.refusals.specs.Limits.{signatureLength}
@@ -62,7 +62,7 @@ module _ (l : List ℕ) (list : List ℕ) where
     listed-cards : listedBy ≡ stored
     unfolding listing
     listed-cards =
-        rw (cards-accepted l list e, laid stored list fits)
+        rw (cards-accepted l list e, from-start stored list fits)
         (take-append-seam stored (drop (length stored) list))
 
     -- as many are found as records are used
@@ -96,7 +96,7 @@ module _ (l : List ℕ) (list : List ℕ) where
         drop (allCardsOf l list .found) (allCardsOf l list .list) ≡ drop (allCardsOf l list .found) list
     unfolding listing
     later-stay =
-        rw (cards-accepted l list e, laid stored list fits)
+        rw (cards-accepted l list e, from-start stored list fits)
         (drop-append-seam stored (drop (length stored) list))
 
 -- ---- one card, of the table l and a lent row

@@ -5,10 +5,10 @@ use mathlib.Core.Path.{_≡_, refl, sym, ap, ap₂, subst, _∙_}
 use mathlib.Core.List.{List, [], _∷_, _++_}
 use native.Mathlib.Omega.{arith}
 use native.Mathlib.Numerals.{add-one}
-use native.Mathlib.Nat.{zero-add, add-zero}
-use lib.ListN.{length, take, drop, getD, set}
+use native.Mathlib.Nat.{zero-add}
+use lib.ListN.{length, take, drop, getD}
 use lib.Seq.{sets, take-suc, take-all, length-take-le, drop-append-seam}
-use Rattle.places.specs.Laid.{laid}
+use Rattle.places.specs.Fill.{from-start, sets-append}
 use Rattle.number.specs.Number.{digits, withNumber}
 use Rattle.distance.specs.Signature.{Fit, readingsAt}
 use Rattle.refusals.specs.Limits.{signatureLength}
@@ -36,12 +36,6 @@ row-more row vs n t v e ev =
 numbers-last : (vs : List ℕ) (v : ℕ) → numbers 2 (vs ++ (v ∷ [])) ≡ numbers 2 vs ++ digits 2 v
 numbers-last [] v = refl
 numbers-last (x ∷ vs) v = ap (λ (bs : List ℕ). digits 2 x ++ bs) (numbers-last vs v)
-
-sets-append : (cs bs l : List ℕ) (i : ℕ) → sets l i (cs ++ bs) ≡ sets (sets l i cs) (i + length cs) bs
-sets-append [] bs l i = ap (λ (k : ℕ). sets l k bs) (sym (add-zero i))
-sets-append (c ∷ cs) bs l i =
-    let e : suc i + length cs ≡ i + suc (length cs) = omega arith in
-    sets-append cs bs (set l i c) (suc i) ∙ ap (λ (k : ℕ). sets (sets (set l i c) (suc i) cs) k bs) e
 
 two-bytes : (l : List ℕ) (at v : ℕ) → withNumber 2 l at v ≡ sets l at (digits 2 v)
 unfolding withNumber
@@ -79,4 +73,4 @@ module _ (row vs : List ℕ) (sixteen : length vs ≡ 16) where
       let bs = numbers 2 vs in
       let long : length bs ≡ signatureLength = omega (arith, numbers-length vs) in
       subst (λ (k : ℕ). drop k (sets row 0 bs) ≡ drop k row) long
-      (ap (drop (length bs)) (laid bs row (omega arith)) ∙ drop-append-seam bs (drop (length bs) row))
+      (ap (drop (length bs)) (from-start bs row (omega arith)) ∙ drop-append-seam bs (drop (length bs) row))

@@ -1,13 +1,13 @@
 -- A list that a loop fills from the front until it is another list; entries written one after another; zeros.
 -- Assumes nothing.
-use Prim.Native.Nat.{ℕ, zero, suc, _+_, _<_}
-use mathlib.Core.Path.{_≡_, refl, _∙_}
+use Prim.Native.Nat.{ℕ, zero, suc, _+_, _≤_, _<_}
+use mathlib.Core.Path.{_≡_, refl, ap, _∙_}
 use mathlib.Core.List.{List, [], _∷_, _++_}
 use native.Mathlib.Omega.{arith}
-use native.Mathlib.Nat.{add-zero, add-suc, suc-add}
+use native.Mathlib.Nat.{zero-add, add-zero, add-suc, suc-add}
 use borrow.Author.Count.{below-more}
-use lib.ListN.{getD, set, length, replicate}
-use lib.Seq.{getD-set-same, getD-set-other, ext-getD, sets}
+use lib.ListN.{getD, set, length, drop, replicate}
+use lib.Seq.{getD-set-same, getD-set-other, ext-getD, sets, sets-eq}
 
 -- the first i places of l hold what m holds there
 abbrev pub Filled : List ℕ → List ℕ → ℕ → Type 0
@@ -31,6 +31,10 @@ filled-all m l n el em all = ext-getD 0 l m (cc) (λ k b. all k (omega arith))
 pub sets-append : (a b l : List ℕ) (i : ℕ) → sets l i (a ++ b) ≡ sets (sets l i a) (i + length a) b
 sets-append [] b l i = rw (add-zero i)
 sets-append (x ∷ a) b l i = sets-append a b (set l i x) (suc i) ∙ rw (add-suc i (length a), suc-add i (length a))
+
+-- a run of entries from the start: the list is these, and then what it was
+pub from-start : (cs l : List ℕ) → length cs ≤ length l → sets l 0 cs ≡ cs ++ drop (length cs) l
+from-start cs l h = sets-eq cs l 0 (omega arith) ∙ ap (λ (k : ℕ). cs ++ drop k l) (zero-add (length cs))
 
 -- a list of zeros reads as 0 at every place
 pub zeros-at : (n k : ℕ) → _≡_ {A = ℕ} (getD (replicate n 0) k 0) 0

@@ -4,8 +4,7 @@
 -- Sum        a sum over the places       Test     a test at each place: all pass, or how many do
 -- Count      what a count of 0, 1 or more says of the places
 -- Decides    a test that says yes exactly where a statement holds; tests joined
--- Row        the row of f 0, f 1, ..     Fill     a row that a loop fills; a run of entries; zeros
--- Laid       numbers laid from a row's start
+-- Row        the row of f 0, f 1, ..     Fill     a row that a loop fills; entries from its start; zeros
 pub mod Cases
 pub mod Choice
 pub mod Sum
@@ -14,4 +13,3 @@ pub mod Decides
 pub mod Count
 pub mod Row
 pub mod Fill
-pub mod Laid

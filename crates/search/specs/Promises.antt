@@ -8,7 +8,7 @@ use native.Mathlib.Omega.{arith}
 use native.Mathlib.Decide.{ℕ-discrete}
 use lib.ListN.{length, take, drop}
 use lib.Seq.{take-append-seam, drop-append-seam}
-use Rattle.places.specs.Laid.{laid}
+use Rattle.places.specs.Fill.{from-start}
 use Rattle.number.specs.Frame.{Bytes}
 use Rattle.distance.specs.Signature.{readingsAt}
 use Rattle.distance.specs.Kind.{apart}
@@ -148,7 +148,7 @@ module _ (l : List ℕ) (kind : ℕ) (s : List ℕ) where
     pub listed-cards : listedBy ≡ found
     unfolding listing
     listed-cards =
-        rw (accepted-is l kind s r list e, laid found list fits) (take-append-seam found (drop (length found) list))
+        rw (accepted-is l kind s r list e, from-start found list fits) (take-append-seam found (drop (length found) list))
 
     -- "later entries stay"
     pub later-stay :
@@ -156,7 +156,7 @@ module _ (l : List ℕ) (kind : ℕ) (s : List ℕ) where
         ≡ drop (searchOf l kind s r list .found) list
     unfolding listing
     later-stay =
-        rw (accepted-is l kind s r list e, laid found list fits) (drop-append-seam found (drop (length found) list))
+        rw (accepted-is l kind s r list e, from-start found list fits) (drop-append-seam found (drop (length found) list))
 
     -- no card is listed twice
     pub listed-once : Distinct listedBy

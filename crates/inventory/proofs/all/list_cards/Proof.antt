@@ -11,13 +11,13 @@ use Rattle.admission.specs.Verdict.{byte-most}
 use Rattle.table.specs.Record.{recordOf}
 use Rattle.table.specs.Table.{recordsIn}
 use Rattle.table.specs.Stands.{stands-in}
-use Rattle.inventory.specs.Listing.{Laid, laid-none, laid-more, laid-all, slot-left}
+use Rattle.inventory.specs.Listing.{CardsLaid, laid-none, laid-more, laid-all, slot-left}
 use Rattle.inventory.proofs.all.list_cards.Statement.{statement}
 use Rattle.inventory.proofs.all.list_cards.Tie as tie
 
 abbrev Inv-loop : tie.InvT-loop
 Inv-loop t list₀ used s₀ found₀ list s found =
-    (s ≤ recordsIn t) × (length list ≡ length list₀) × Laid (recordOf t) used list₀ s found list
+    (s ≤ recordsIn t) × (length list ≡ length list₀) × CardsLaid (recordOf t) used list₀ s found list
 
 abbrev μ-loop : tie.MeasureT-loop
 μ-loop t list₀ used s₀ found₀ list s found = recordsIn t - s
