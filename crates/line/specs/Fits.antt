@@ -1,4 +1,4 @@
--- How long a line is at most: so a program that lends this room for as many cards as it has always gets its lines whole.
+-- How long a line is at most: a program that lends this room for as many cards as it has always gets its lines whole.
 -- Assumes nothing.
 use Prim.Native.Nat.{ℕ, zero, suc, _+_, _*_, _^_, _≤_, _<_}
 use mathlib.Core.Path.{_≡_, refl, sym, ap}
@@ -58,5 +58,5 @@ line-fits number refusal count found cards n r c f h =
       three,
     )
 
-pub cut-fits : (left : ℕ) → left < 2 ^ 64 → length (cutOf left) ≤ roomFor 0
+pub cut-fits : (left : ℕ) → left < 2 ^ 64 → length (cutOf left) ≤ 25
 cut-fits left h = omega (arith, cut-length left, few-digits-64 left h)

@@ -191,7 +191,8 @@ pub cut-written :
 unfolding cutOf rowOf
 cut-written left c l m e f =
     let row = space ∷ digits left in
-    let two = behind cutWord (row ++ []) l (sets l 0 cutWord) m 0 3 refl refl (f ∙ ap (sets (sets l 0 cutWord) 3) (sym (append-nil row))) in
+    let number = f ∙ ap (sets (sets l 0 cutWord) 3) (sym (append-nil row)) in
+    let two = behind cutWord (row ++ []) l (sets l 0 cutWord) m 0 3 refl refl number in
     behind
     (cutWord ++ (row ++ []))
     (newline ∷ [])

@@ -1,5 +1,5 @@
--- `command::operate` meets its contract: each operation's call has the outcome that the definition gives for its number.
--- Assumes nothing.
+-- `command::operate` meets its contract: each operation's call has the outcome that the definition gives for its
+-- number. Assumes nothing.
 use Prim.Native.Nat.{ℕ}
 use mathlib.Core.Path.{sym, ap, _∙_}
 use Rattle.insert.specs.Insert.{insertOf}

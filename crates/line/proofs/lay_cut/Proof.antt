@@ -33,7 +33,9 @@ slice-write-out-3 : tie.Need-slice-write-out-3
 slice-write-out-3 c = simp length-set (omega (arith, room (c .before)))
 
 put-next-requires : tie.Need-put-next-requires
-put-next-requires c κs = omega (arith, room (c .before .before), length-sets (c .before .before .args .out .now) 0 cutWord)
+put-next-requires c κs =
+    let s = c .before .before in
+    omega (arith, room s, length-sets (s .args .out .now) 0 cutWord)
 
 slice-write-out-4 : tie.Need-slice-write-out-4
 slice-write-out-4 c =

@@ -69,10 +69,9 @@ put-number-requires c κs = omega (arith, room (lent c))
 put-row-requires : tie.Need-put-row-requires
 put-row-requires c κs =
     let w = c .before .before .before in
-    let s = begun w in (
-      omega (arith, s .pre .0),
-      omega (arith, room s, w .put-number .ensures .0, w .put-number .kept .0, ap (λ (l : List ℕ). length (rowOf l)) (whole s)),
-    )
+    let s = begun w in
+    let same = ap (λ (l : List ℕ). length (rowOf l)) (whole s) in
+    (omega (arith, s .pre .0), omega (arith, room s, w .put-number .ensures .0, w .put-number .kept .0, same))
 
 put-row-requires-2 : tie.Need-put-row-requires-2
 put-row-requires-2 c κs =

@@ -11,7 +11,8 @@ use Rattle.line.proofs.places.Statement.{statement}
 use Rattle.line.proofs.places.Tie as tie
 
 abbrev Inv-loop : tie.InvT-loop
-Inv-loop n counted₀ rest₀ counted rest = (counted + length (digits rest) ≡ length (digits n) + 1) × (length (digits n) ≤ 20)
+Inv-loop n counted₀ rest₀ counted rest =
+    (counted + length (digits rest) ≡ length (digits n) + 1) × (length (digits n) ≤ 20)
 
 abbrev μ-loop : tie.MeasureT-loop
 μ-loop n counted₀ rest₀ counted rest = rest

@@ -41,7 +41,8 @@ same-line c =
 
 -- its length is what is counted
 size : (c : tie.After-row-places2) →
-    length (lineAt c) ≡ c .before .before .before .places .result + c .before .row-places .result + c .row-places2 .result + 1
+    length (lineAt c)
+    ≡ c .before .before .before .places .result + c .before .row-places .result + c .row-places2 .result + 1
 size c =
     let a = start c .args in
     let head = a .refusal ∷ a .count ∷ a .found ∷ [] in

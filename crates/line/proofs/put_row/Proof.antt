@@ -1,5 +1,5 @@
--- `line::put_row` meets its contract. The loop's invariant: what is left of the row, laid behind what stands there, is the
--- row laid at its place. Assumes nothing.
+-- `line::put_row` meets its contract. The loop's invariant: what is left of the row, laid behind what stands there, is
+-- the row laid at its place. Assumes nothing.
 use Prim.Native.Nat.{ℕ, suc, _+_, _-_, _≤_}
 use mathlib.Core.Path.{_≡_, refl, sym, ap, _∙_}
 use mathlib.Core.List.{List}
