@@ -1,16 +1,26 @@
--- A line that is put into enough room stands there whole, and 5,679 bytes are enough for 512 cards. Assumes nothing.
+-- No command leads to the cleared table and list; a line that is put into enough room stands there whole, and 5,679
+-- bytes are enough for 512 cards. Assumes nothing.
 use Prim.Native.Nat.{ℕ, _+_, _*_, _^_, _≤_, _<_}
-use mathlib.Core.Path.{_≡_, refl, sym, ap, _∙_}
+use mathlib.Core.Path.{_≡_, sym, ap, subst, _∙_}
 use mathlib.Core.List.{List}
 use native.Mathlib.Omega.{arith}
 use native.Mathlib.Decide.{decLt}
-use lib.ListN.{length, getD, take, length-take, List·getD-eq-default}
+use lib.ListN.{length, getD, take, replicate, length-take, List·getD-eq-default}
 use lib.Seq.{sets, length-sets, getD-take}
 use Rattle.line.specs.Line.{Laid, lineInto, lineOf, cutOf}
 use Rattle.line.specs.Laws.{into-room, line-front}
 use Rattle.line.specs.Fits.{Cards, roomFor, line-fits, cut-fits}
 use Rattle.command.specs.Command.{Done}
-use Rattle.bench.specs.Program.{Answer, answerOf}
+use Rattle.bench.specs.Program.{Answer, answerOf, Reached, cleared}
+
+-- the start, as a program finds it
+pub starts :
+    {done : ℕ} {table list : List ℕ}
+    → done ≡ 0
+    → table ≡ replicate 32768 0
+    → list ≡ replicate 512 0
+    → Reached done table list
+starts d t l = subst (λ (x : ℕ × List ℕ × List ℕ). Reached (x .0) (x .1) (x .2)) (λ i. (sym d i, sym t i, sym l i)) cleared
 
 -- what is laid into enough room stands within it, and its bytes are the line
 pub laid-within :

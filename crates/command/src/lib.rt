@@ -74,8 +74,8 @@ pub fn run(command: &[u8], table: &mut [u8], list: &mut [u32]) -> Report
         })
         (commandOf (now (command .entry)) (now (table .entry)) (now (list .entry))) ⌝ }
 {
-    if command.len() == COMMAND {
-        return operate(command, table, list);
+    if command.len() != COMMAND {
+        return told(ARGUMENT, 0, 0);
     }
-    told(ARGUMENT, 0, 0)
+    operate(command, table, list)
 }

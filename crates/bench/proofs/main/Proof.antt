@@ -1,8 +1,10 @@
 -- `bench::main` is safe and ends: the measure is how many command numbers are left. The loop's invariant: so many
 -- commands lead from the cleared table and list to these. Assumes nothing.
 use Prim.Native.Nat.{_-_, _^_}
+use mathlib.Core.Path.{refl}
 use borrow.Author.Tests.{not-false}
-use Rattle.bench.specs.Program.{Reached, cleared}
+use Rattle.bench.specs.Program.{Reached}
+use Rattle.bench.specs.Laws.{starts}
 use borrow.Author.Needs.{needs}
 use Rattle.bench.proofs.main.Statement.{statement}
 use Rattle.bench.proofs.main.Tie as tie
@@ -14,7 +16,7 @@ abbrev μ-loop : tie.MeasureT-loop
 μ-loop table₀ list₀ done₀ table list done = 2 ^ 64 - done
 
 loop-holds : tie.Need-loop-holds Inv-loop μ-loop
-loop-holds c = cleared
+loop-holds c = starts refl refl refl
 
 step-requires : tie.Need-step-requires Inv-loop μ-loop
 step-requires c κs = search needs

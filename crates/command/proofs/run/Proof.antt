@@ -10,10 +10,19 @@ use Rattle.command.proofs.run.Tie as tie
 abbrev lent : tie.After-slice-known2 → tie.Start
 lent c = c .before .before .before
 
-abbrev whole : tie.After-operate → tie.Then1
+abbrev whole : tie.After-operate → tie.Else1
 whole c = c .before .before .before
 
 -- ---- needs
+
+told-requires : tie.Need-told-requires
+told-requires c κs = search needs
+
+returns : tie.Need-returns
+returns c =
+    let a = lent (c .before .before) .args in
+    same-report (a .table .now) (a .list .now) (c .told .ensures)
+    ∙ sym (command-length (a .command .now) (a .table .now) (a .list .now) (c .before .if1 .taken))
 
 operate-requires : tie.Need-operate-requires
 operate-requires c κs = search needs
@@ -24,22 +33,13 @@ same-length c = search needs
 same-length-2 : tie.Need-same-length-2
 same-length-2 c = search needs
 
-returns : tie.Need-returns
-returns c =
+returns-2 : tie.Need-returns-2
+returns-2 c =
     let w = c .before .before .before .before in
     let a = lent (whole w .before) .args in
     w .operate .ensures
-    ∙ sym (command-whole (a .command .now) (a .table .now) (a .list .now) (whole w .if1 .taken))
-
-told-requires : tie.Need-told-requires
-told-requires c κs = search needs
-
-returns-2 : tie.Need-returns-2
-returns-2 c =
-    let a = lent (c .before .before) .args in
-    same-report (a .table .now) (a .list .now) (c .told .ensures)
-    ∙ sym (command-length (a .command .now) (a .table .now) (a .list .now) (c .before .if1 .left))
+    ∙ sym (command-whole (a .command .now) (a .table .now) (a .list .now) (whole w .if1 .left))
 
 pub run-spec : {M : Type 1} → statement M
 run-spec =
-    tie.close (tie.spec operate-requires same-length same-length-2 returns told-requires returns-2)
+    tie.close (tie.spec told-requires returns operate-requires same-length same-length-2 returns-2)
