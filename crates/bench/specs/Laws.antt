@@ -1,26 +1,30 @@
 -- No command leads to the cleared table and list; a line that is put into enough room stands there whole, and 5,679
 -- bytes are enough for 512 cards. Assumes nothing.
-use Prim.Native.Nat.{ℕ, _+_, _*_, _^_, _≤_, _<_}
+use Prim.Native.Nat.{ℕ, _^_, _≤_, _<_}
 use mathlib.Core.Path.{_≡_, sym, ap, subst, _∙_}
 use mathlib.Core.List.{List}
 use native.Mathlib.Omega.{arith}
 use native.Mathlib.Decide.{decLt}
-use lib.ListN.{length, getD, take, replicate, length-take, List·getD-eq-default}
-use lib.Seq.{sets, length-sets, getD-take}
-use Rattle.line.specs.Line.{Laid, lineInto, lineOf, cutOf}
+use lib.ListN.{length, take, replicate, length-take, List·getD-eq-default}
+use lib.Seq.{length-sets, getD-take}
+use Rattle.line.specs.Line.{Laid, lineInto}
 use Rattle.line.specs.Laws.{into-room, line-front}
-use Rattle.line.specs.Fits.{Cards, roomFor, line-fits, cut-fits}
+use Rattle.line.specs.Fits.{Cards, roomFor, line-fits}
 use Rattle.command.specs.Command.{Done}
-use Rattle.bench.specs.Program.{Answer, answerOf, Reached, cleared}
+use Rattle.bench.specs.Program.{places, tableLength, Answer, answerOf, Reached, cleared}
 
 -- the start, as a program finds it
 pub starts :
     {done : ℕ} {table list : List ℕ}
     → done ≡ 0
-    → table ≡ replicate 32768 0
-    → list ≡ replicate 512 0
+    → table ≡ replicate tableLength 0
+    → list ≡ replicate places 0
     → Reached done table list
-starts d t l = subst (λ (x : ℕ × List ℕ × List ℕ). Reached (x .0) (x .1) (x .2)) (λ i. (sym d i, sym t i, sym l i)) cleared
+starts d t l =
+    subst
+    (λ (x : ℕ × List ℕ × List ℕ). Reached (x .0) (x .1) (x .2))
+    (λ i. (sym d i, sym t i, sym l i))
+    cleared
 
 -- what is laid into enough room stands within it, and its bytes are the line
 pub laid-within :
@@ -55,27 +59,27 @@ pub record Small (d : Done) : Type 0 where
   pub count : d .count < 2 ^ 32
   pub found : d .found < 2 ^ 32
   pub cards : Cards (d .list)
-  pub places : length (d .list) ≤ 512
+  pub few : length (d .list) ≤ places
 
 -- a command's line fits
 pub answer-fits :
     (number : ℕ) (d : Done)
     → number < 2 ^ 64
     → Small d
-    → length (answerOf number d .line) ≤ roomFor 512
+    → length (answerOf number d .line) ≤ roomFor places
 answer-fits number d h s =
     let cards = take (d .found) (d .list) in
     let few = front-cards (d .found) (d .list) (s .cards) in
     let fits =
     line-fits number (d .refusal) (d .count) (d .found) cards h (s .refusal) (s .count) (s .found) few in
-    omega (arith, fits, length-take (d .found) (d .list), s .places)
+    omega (arith, fits, length-take (d .found) (d .list), s .few)
 
 -- a command is run, and its line put into enough room
 pub answered :
     (number : ℕ) (d e : Done) (room : List ℕ) (o : Laid)
     → number < 2 ^ 64
     → Small e
-    → roomFor 512 ≤ length room
+    → roomFor places ≤ length room
     → e ≡ d
     → o ≡ lineInto (answerOf number e .line) room
     → (o .size ≤ length (o .bytes))

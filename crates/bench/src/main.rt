@@ -5,8 +5,9 @@ ghost use Prim.Native.Nat.{_+_, _≤_, _<_, _^_};
 ghost use mathlib.Core.Path.{_≡_};
 ghost use mathlib.Core.Bool.{true};
 ghost use lib.ListN.{length, take};
-ghost use Rattle.command.specs.Command.{commandOf};
-ghost use Rattle.bench.specs.Program.{Answer, answerOf, Reached, Says};
+ghost use Rattle.line.specs.Fits.{roomFor};
+ghost use Rattle.command.specs.Command.{commandOf, commandLength};
+ghost use Rattle.bench.specs.Program.{places, Answer, answerOf, Reached, Says};
 use command::COMMAND;
 use libc::STDERR_FILENO;
 use libc::STDIN_FILENO;
@@ -46,7 +47,7 @@ fn print(done: u64, bytes: &[u8]) -> bool
 
 // Runs a command and puts its line, numbered behind the commands done, into the room lent; answers its length.
 fn answer(done: u64, input: &[u8], table: &mut [u8], list: &mut [u32], room: &mut [u8]) -> usize
-    requires { ⌜ (done + 1 < 2 ^ 64) × (length (now list) ≤ 512) × (5679 ≤ length (now room)) ⌝ }
+    requires { ⌜ (done + 1 < 2 ^ 64) × (length (now list) ≤ places) × (roomFor places ≤ length (now room)) ⌝ }
     ensures { λ n. ⌜ (n ≤ length (now (room .exit))) × _≡_ {A = Answer}
         (record { line = take n (now (room .exit)); table = now (table .exit); list = now (list .exit) })
         (answerOf (done + 1) (commandOf (now (input .entry)) (now (table .entry)) (now (list .entry)))) ⌝ }
@@ -67,7 +68,7 @@ fn respond(done: u64, input: &[u8], table: &mut [u8; TABLE], list: &mut [u32; PL
 
 // Prints how many bytes were left over, if any were.
 fn print_cut(done: u64, left: usize)
-    requires { ⌜ done + 1 < 2 ^ 64 ⌝ }
+    requires { ⌜ (done + 1 < 2 ^ 64) × (left < commandLength) ⌝ }
 {
     if left == 0 {
         return;

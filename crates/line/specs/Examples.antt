@@ -1,7 +1,6 @@
 -- Lines of the paper's listing, a number at the edge of each type, and a cut, each computed.
-use Prim.Native.Nat.{ℕ}
 use mathlib.Core.Path.{_≡_, refl}
-use mathlib.Core.List.{List, [], _∷_}
+use mathlib.Core.List.{[], _∷_}
 use native.Mathlib.Omega.{arith}
 use Rattle.line.specs.Line.{digits, digitsWithin, rowOf, lineOf, cutOf}
 use Rattle.line.specs.Digits.{digits-within}

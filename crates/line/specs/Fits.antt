@@ -1,10 +1,9 @@
 -- How long a line is at most: a program that lends this room for as many cards as it has always gets its lines whole.
 -- Assumes nothing.
-use Prim.Native.Nat.{ℕ, zero, suc, _+_, _*_, _^_, _≤_, _<_}
-use mathlib.Core.Path.{_≡_, refl, sym, ap}
+use Prim.Native.Nat.{ℕ, suc, _+_, _*_, _^_, _≤_, _<_}
 use mathlib.Core.List.{List, [], _∷_, _++_}
 use native.Mathlib.Omega.{arith}
-use lib.ListN.{length, getD, take, length-append}
+use lib.ListN.{length, getD, length-append}
 use Rattle.line.specs.Line.{space, newline, digits, rowOf, lineOf, cutOf}
 use Rattle.line.specs.Digits.{few-digits-8, few-digits-32, few-digits-64}
 use Rattle.line.specs.Laws.{cut-length}

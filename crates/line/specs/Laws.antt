@@ -1,29 +1,16 @@
 -- Lines as the code writes them: a number digit by digit, a row number by number, a line part by part. Each law is one
 -- step of a function. Assumes nothing.
-use Prim.Native.Nat.{ℕ, zero, suc, _+_, _-_, _/_, _%_, _≤_, _<_}
+use Prim.Native.Nat.{ℕ, suc, _+_, _-_, _/_, _%_, _≤_, _<_}
 use mathlib.Core.Path.{_≡_, refl, sym, ap, _∙_}
 use mathlib.Core.List.{List, [], _∷_, _++_, append-assoc, append-nil}
 use native.Mathlib.Omega.{arith}
-use native.Mathlib.Nat.{add-zero, zero-add, sub-zero}
+use native.Mathlib.Nat.{sub-zero}
 use native.Mathlib.Numerals.{add-one}
 use borrow.Author.Tests.{le-leb, lt-leb}
 use lib.ListN.{length, getD, set, take, drop, length-append}
 use lib.Seq.{sets, sets-eq, drop-cons, take-append-seam}
-use Rattle.places.specs.Choice.{pick}
 use Rattle.places.specs.Fill.{sets-append}
-use Rattle.line.specs.Line.{
-  space,
-  newline,
-  cutWord,
-  digit,
-  digits,
-  rowOf,
-  lineOf,
-  cutOf,
-  Laid,
-  laid,
-  lineInto,
-}
+use Rattle.line.specs.Line.{space, newline, cutWord, digit, digits, rowOf, lineOf, cutOf, laid, lineInto}
 use Rattle.line.specs.Digits.{digits-one, digits-more}
 
 -- ---- a number

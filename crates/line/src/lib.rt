@@ -120,8 +120,8 @@ fn lay_line(out: &mut [u8], number: u64, head: &[u32], cards: &[u32], k: usize) 
     c + 1
 }
 
-// A command's line: its number, refusal, distance count and cards found, then so many of the lent cards; fewer are lent
-// than were found: those that are. Answers how many bytes the line has.
+// A command's line: its number, refusal, distance count and cards found, then so many of the lent cards, or all where
+// fewer are lent. Answers how many bytes the line has.
 pub fn put_line(
     out: &mut [u8],
     number: u64,

@@ -1,8 +1,7 @@
 -- `bench::answer` meets its contract: the command's report is put into a line, for which there is room. Assumes
 -- nothing.
-use Prim.Native.Nat.{ℕ, _+_, _≤_, _<_, _^_}
+use Prim.Native.Nat.{_+_}
 use native.Mathlib.Omega.{arith}
-use lib.ListN.{length}
 use Rattle.command.specs.Command.{Done, commandOf}
 use Rattle.bench.specs.Laws.{Small, answered}
 use borrow.Author.Needs.{needs}
@@ -40,7 +39,7 @@ small c = record {
   count = omega (arith, ran c .run .ok);
   found = omega (arith, ran c .run .ok);
   cards = λ i. omega (arith, c .slice-known5 .given i);
-  places = omega (arith, start (known (ran c)) .pre .1, ran c .run .kept .1 .1 .0);
+  few = omega (arith, start (known (ran c)) .pre .1, ran c .run .kept .1 .1 .0);
 }
 
 -- ---- needs

@@ -1,5 +1,5 @@
 -- `bench::print_cut` is safe and prints nothing but the line of left-over bytes. Assumes nothing.
-use Prim.Native.Nat.{ℕ, _+_, _≤_}
+use Prim.Native.Nat.{_≤_, _<_}
 use mathlib.Core.Path.{_≡_, sym, subst}
 use native.Mathlib.Omega.{arith}
 use lib.ListN.{length, take}
@@ -14,6 +14,10 @@ use Rattle.bench.proofs.print_cut.Tie as tie
 
 abbrev start : tie.After-put-cut → tie.Start
 start c = c .before .before .before
+
+-- some bytes are left
+some : (c : tie.After-put-cut) → 0 < start c .args .left
+some c = omega (arith, c .before .before .if1 .left)
 
 -- the line fits
 fits : (c : tie.After-put-cut) → length (cutOf (start c .args .left)) ≤ 25
@@ -49,7 +53,7 @@ print-requires : tie.Need-print-requires
 print-requires c κs =
     let w = c .before .before in
     let a = start w .args in
-    (start w .pre, subst (Says (a .done)) (sym (whole w)) (leaves (a .left)))
+    (start w .pre .0, subst (Says (a .done)) (sym (whole w)) (leaves (a .left) (some w) (start w .pre .1)))
 
 returns-2 : tie.Need-returns-2
 returns-2 c = search needs

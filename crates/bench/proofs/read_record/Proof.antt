@@ -1,8 +1,7 @@
 -- `bench::read_record` meets its contract. The loop's invariant: no more bytes are there than the record has. What is
 -- left of it falls, since a turn that reads nothing is the last. Assumes nothing.
 use Prim.Native.Nat.{_≤_, _-_}
-use mathlib.Core.Path.{_≡_, _∙_}
-use native.Mathlib.Omega.{arith}
+use mathlib.Core.Path.{_≡_}
 use lib.ListN.{length}
 use borrow.Author.Needs.{needs}
 use Rattle.bench.proofs.read_record.Statement.{statement}

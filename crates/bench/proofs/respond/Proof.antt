@@ -1,12 +1,8 @@
 -- `bench::respond` meets its contract: what is printed is the command's line, and the command leads on. Assumes
 -- nothing.
-use Prim.Native.Nat.{ℕ, _+_}
-use mathlib.Core.Path.{_≡_, sym, ap, subst, _∙_}
-use mathlib.Core.List.{List}
-use native.Mathlib.Omega.{arith}
-use lib.ListN.{length, take}
+use Prim.Native.Nat.{_+_}
+use mathlib.Core.Path.{sym, ap, subst}
 use lib.Seq.{length-take-le}
-use Rattle.command.specs.Command.{commandOf}
 use Rattle.bench.specs.Program.{Answer, Reached, Says, answers, ran}
 use borrow.Author.Needs.{needs}
 use Rattle.bench.proofs.respond.Statement.{statement}

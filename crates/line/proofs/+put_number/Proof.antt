@@ -1,14 +1,12 @@
 -- `line::put_number` meets its contract. The falling number is n: first the digits of a tenth, then the last one behind
 -- them. Assumes nothing.
-use Prim.Native.Nat.{ℕ, _+_, _%_, _/_, _<_, _≤_}
-use mathlib.Core.Path.{_≡_, refl, sym, ap, _∙_}
-use mathlib.Core.List.{List}
+use Prim.Native.Nat.{ℕ, _+_, _/_, _<_}
+use mathlib.Core.Path.{_≡_, ap, _∙_}
 use native.Mathlib.Omega.{arith}
 use borrow.Author.Needs.{needs}
 use borrow.Fn.Kinds.{In}
 use borrow.Fn.PlainCycle.{Measures, is, falls, and}
-use lib.ListN.{length, set, length-set}
-use lib.Seq.{sets}
+use lib.ListN.{length, set}
 use Rattle.line.specs.Line.{digits}
 use Rattle.line.specs.Digits.{length-one, length-more}
 use Rattle.line.specs.Laws.{one-digit, last-digit}

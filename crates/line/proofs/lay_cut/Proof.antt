@@ -1,12 +1,11 @@
 -- `line::lay_cut` meets its contract: the word, the number behind a space, the line's end. Assumes nothing.
-use Prim.Native.Nat.{ℕ, _+_, _≤_}
+use Prim.Native.Nat.{_+_, _≤_}
 use mathlib.Core.Path.{_≡_, _∙_}
 use native.Mathlib.Omega.{arith}
 use lib.ListN.{length, length-set}
-use lib.Seq.{sets, length-sets}
+use lib.Seq.{length-sets}
 use Rattle.line.specs.Line.{cutWord, digits, newline}
 use Rattle.line.specs.Laws.{cut-length, cut-written}
-use borrow.Author.Needs.{needs}
 use Rattle.line.proofs.lay_cut.Statement.{statement}
 use Rattle.line.proofs.lay_cut.Tie as tie
 

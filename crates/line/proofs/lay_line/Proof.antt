@@ -7,7 +7,6 @@ use lib.ListN.{length, length-set, take}
 use lib.Seq.{sets, take-all}
 use Rattle.line.specs.Line.{digits, rowOf, newline}
 use Rattle.line.specs.Laws.{line-length, line-written}
-use borrow.Author.Needs.{needs}
 use Rattle.line.proofs.lay_line.Statement.{statement}
 use Rattle.line.proofs.lay_line.Tie as tie
 

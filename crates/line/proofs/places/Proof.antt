@@ -1,6 +1,6 @@
 -- `line::places` meets its contract. The loop's invariant: what is counted and the digits of the rest are one more than
 -- n's digits. The rest falls. Assumes nothing.
-use Prim.Native.Nat.{ℕ, _+_, _≤_, _<_, _^_}
+use Prim.Native.Nat.{_+_, _≤_}
 use mathlib.Core.Path.{_≡_}
 use native.Mathlib.Omega.{arith}
 use borrow.Author.Needs.{needs}

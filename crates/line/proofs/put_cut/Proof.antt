@@ -1,9 +1,7 @@
 -- `line::put_cut` meets its contract: the line is laid if it fits, and only then. Assumes nothing.
-use Prim.Native.Nat.{ℕ, _+_}
-use mathlib.Core.Path.{_≡_, refl, sym, _∙_}
+use mathlib.Core.Path.{sym, _∙_}
 use native.Mathlib.Omega.{arith}
-use lib.ListN.{length}
-use Rattle.line.specs.Line.{digits, cutOf}
+use Rattle.line.specs.Line.{cutOf}
 use Rattle.line.specs.Laws.{cut-length, into-room, no-room, same-laid}
 use borrow.Author.Needs.{needs}
 use Rattle.line.proofs.put_cut.Statement.{statement}

@@ -1,10 +1,10 @@
 -- `line::row_places` meets its contract. The loop's invariant: what is counted and what is left of the row are the row.
 -- Assumes nothing.
-use Prim.Native.Nat.{ℕ, suc, _+_, _*_, _-_, _≤_}
-use mathlib.Core.Path.{_≡_, ap, _∙_}
+use Prim.Native.Nat.{_+_, _*_, _-_, _≤_}
+use mathlib.Core.Path.{_≡_, ap}
 use native.Mathlib.Omega.{arith}
 use lib.ListN.{length, take}
-use Rattle.line.specs.Line.{digits, rowOf}
+use Rattle.line.specs.Line.{rowOf}
 use Rattle.line.specs.Laws.{rowLeft, row-whole, row-over, row-next-length}
 use borrow.Author.Needs.{needs}
 use Rattle.line.proofs.row_places.Statement.{statement}
