@@ -1,5 +1,5 @@
--- A number's digits without the count of turns: one digit below 10, else those of a tenth and one more. So they are
--- told by two equations; and a number below 10 to the power k has at most k. Assumes nothing.
+-- A number's digits by two equations in which no turn is counted: one digit below 10, else those of a tenth and one
+-- more. A number below 10 to the power k has at most k. Assumes nothing.
 use Prim.Native.Nat.{ℕ, zero, suc, _+_, _/_, _%_, _^_, _≤_, _<_}
 use mathlib.Core.Path.{_≡_, refl, ap, _∙_}
 use mathlib.Core.Bool.{Bool, true, false}
@@ -12,12 +12,12 @@ use lib.ListN.{length, length-append}
 use Rattle.places.specs.Choice.{pick}
 use Rattle.line.specs.Line.{digit, digits, digitsWithin}
 
--- two ends of a choice that agree where it falls on the second
+-- two choices that differ only in their second value, and not where that is chosen
 same-else : (b : Bool) (x y z : List ℕ) → (b ≡ false → y ≡ z) → pick b x y ≡ pick b x z
 same-else true x y z h = refl
 same-else false x y z h = h refl
 
--- more turns than n are as good as any other such number of them
+-- any two numbers of turns above n give the same digits
 enough : (k j n : ℕ) → n < k → n < j → digitsWithin k n ≡ digitsWithin j n
 unfolding digitsWithin
 enough zero j n h g = absurd (omega arith)

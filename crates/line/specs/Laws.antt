@@ -10,7 +10,7 @@ use borrow.Author.Tests.{le-leb, lt-leb}
 use lib.ListN.{length, getD, set, take, drop, length-append}
 use lib.Seq.{sets, sets-eq, drop-cons, take-append-seam}
 use Rattle.places.specs.Fill.{sets-append}
-use Rattle.line.specs.Line.{space, newline, cutWord, digit, digits, rowOf, lineOf, cutOf, laid, lineInto}
+use Rattle.line.specs.Line.{space, newline, cutWord, digit, digits, rowOf, lineOf, cutOf, Laid, laid, lineInto}
 use Rattle.line.specs.Digits.{digits-one, digits-more}
 
 -- ---- a number
@@ -202,6 +202,10 @@ into-room line room h = rw (le-leb (length line) (length room) h)
 pub no-room : (line room : List ℕ) → length room < length line → lineInto line room ≡ laid 0 room
 unfolding lineInto
 no-room line room h = rw (lt-leb (length line) (length room) h)
+
+-- the contract of each public function fixes it: two outcomes that it allows are equal
+pub laid-fixed : (line room : List ℕ) (o p : Laid) → o ≡ lineInto line room → p ≡ lineInto line room → o ≡ p
+laid-fixed line room o p e f = e ∙ sym f
 
 -- what a function answers and leaves
 pub same-laid : {size n : ℕ} {bytes l : List ℕ} → size ≡ n → bytes ≡ l → laid size bytes ≡ laid n l

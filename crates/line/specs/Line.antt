@@ -1,5 +1,5 @@
--- "The bench program": what it prints, as bytes, and a line laid into lent bytes. This is the text to hold against the
--- paper; specs/Digits says of `digits` what it is without its count of turns.
+-- "The bench program": what it prints, as bytes, and a line laid into lent bytes. A number more in a line is one more
+-- in the list of `lineOf`.
 use Prim.Native.Nat.{ℕ, zero, suc, _+_, _/_, _%_}
 use mathlib.Core.List.{List, [], _∷_, _++_}
 use lib.Dec.{leb, ltb}
@@ -25,12 +25,13 @@ digit d = 48 + d
 
 -- ---- numbers
 
--- n's last digits, at most so many of them, the most significant first
+-- n's last digits, the most significant first, in at most so many turns of one digit each
 unfoldable pub digitsWithin : ℕ → ℕ → List ℕ
 digitsWithin zero n = []
 digitsWithin (suc most) n = pick (ltb n 10) (digit n ∷ []) (digitsWithin most (n / 10) ++ (digit (n % 10) ∷ []))
 
--- n in decimal, without leading zeros: no number has more digits than it counts, and one
+-- n in decimal, without leading zeros. No number has more digits than one more than itself, so no turn is missing:
+-- digits n ≡ digit n ∷ [] below 10, and else digits n ≡ digits (n / 10) ++ (digit (n % 10) ∷ []) (specs/Digits)
 unfoldable pub digits : ℕ → List ℕ
 digits n = digitsWithin (suc n) n
 
