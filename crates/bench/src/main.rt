@@ -1,112 +1,153 @@
 // The bench program: a table and a list of 512 places, cleared at start; command records of 48 bytes on standard input,
-// a line for each on standard output. What a command does is `command::run`; here it is only read and printed.
-ghost use Prim.Native.Nat.{_+_, _*_, _≤_};
-ghost use lib.ListN.{length};
-use command::Report;
+// a line for each on standard output. What a command does is `command::run`, what a line is `line`; here commands are
+// counted, and bytes read and written. What fails is told on standard error.
+ghost use Prim.Native.Nat.{_+_, _≤_, _<_, _^_};
+ghost use mathlib.Core.Path.{_≡_};
+ghost use mathlib.Core.Bool.{true};
+ghost use lib.ListN.{length, take};
+ghost use Rattle.line.specs.Fits.{roomFor};
+ghost use Rattle.command.specs.Command.{commandOf, commandLength};
+ghost use Rattle.bench.specs.Program.{places, Answer, answerOf, Reached, Says};
+use command::COMMAND;
+use libc::STDERR_FILENO;
 use libc::STDIN_FILENO;
 use libc::STDOUT_FILENO;
-
-const COMMAND: usize = 48;
 
 const TABLE: usize = 32768;
 
 const PLACES: usize = 512;
 
-// Room for a line: at most 4 + 512 numbers, each of at most 20 digits and a space or the line's end.
-const LINE: usize = 16384;
+// The longest line of so many cards.
+const LINE: usize = 5679;
 
-// Puts n's digits into the line from `at` on, and `after` behind them; answers where the next number goes.
-fn add_number(line: &mut [u8], at: usize, n: u64, after: u8) -> usize
-    requires { ⌜ at + 21 ≤ length (now line) ⌝ }
-    ensures { λ r. ⌜ r ≤ at + 21 ⌝ }
+// The longest line of left-over bytes.
+const CUT: usize = 25;
+
+// Says on standard error what could not be done with the line or command of this number.
+fn complain(what: &[u8], number: u64, of: &[u8]) {
+    io::write_all(STDERR_FILENO, what);
+    io::print_decimal(STDERR_FILENO, number);
+    io::write_all(STDERR_FILENO, of);
+}
+
+// Writes to standard output, as nothing else does: only what the program has to say after so many commands.
+fn print(done: u64, bytes: &[u8]) -> bool
+    requires { ⌜ (done + 1 < 2 ^ 64) × Says done (now bytes) ⌝ }
 {
-    let mut digits = [0u8; 20];
-    let k = io::decimal(n, &mut digits);
-    let mut i = 0;
-    while i < k {
-        line[at + i] = digits[i];
-        i += 1;
+    if io::write_all(STDOUT_FILENO, bytes) {
+        return true;
     }
-    line[at + k] = after;
-    at + k + 1
+    complain(
+        b"bench: could not write line ",
+        done + 1,
+        b" to standard output\n",
+    );
+    false
 }
 
-fn wide(x: u32) -> u64 {
-    x as u64
-}
-
-// What stands behind a number: a space, or the line's end behind the last.
-fn behind(last: bool) -> u8 {
-    if last { b'\n' } else { b' ' }
-}
-
-// Puts the listed cards into the line from `at` on: at each turn i of them stand there.
-fn add_cards(line: &mut [u8], at: usize, list: &[u32; PLACES], found: usize) -> usize
-    requires { ⌜ (at ≤ 84) × (found ≤ 512) × (16384 ≤ length (now line)) ⌝ }
-    ensures { λ r. ⌜ r ≤ 16384 ⌝ }
+// Runs a command and puts its line, numbered behind the commands done, into the room lent; answers its length.
+fn answer(done: u64, input: &[u8], table: &mut [u8], list: &mut [u32], room: &mut [u8]) -> usize
+    requires { ⌜ (done + 1 < 2 ^ 64) × (length (now list) ≤ places) × (roomFor places ≤ length (now room)) ⌝ }
+    ensures { λ n. ⌜ (n ≤ length (now (room .exit))) × _≡_ {A = Answer}
+        (record { line = take n (now (room .exit)); table = now (table .exit); list = now (list .exit) })
+        (answerOf (done + 1) (commandOf (now (input .entry)) (now (table .entry)) (now (list .entry)))) ⌝ }
 {
-    let mut next = at;
-    let mut i = 0;
-    while i < found {
-        next = add_number(line, next, wide(list[i]), behind(i + 1 == found));
-        i += 1;
+    let r = command::run(input, table, list);
+    line::put_line(room, done + 1, r.refusal, r.count, r.found, list)
+}
+
+// Answers a command on standard output; answers whether to go on.
+fn respond(done: u64, input: &[u8], table: &mut [u8; TABLE], list: &mut [u32; PLACES]) -> bool
+    requires { ⌜ (done + 1 < 2 ^ 64) × Reached done (now table) (now list) ⌝ }
+    ensures { λ _. ⌜ Reached (done + 1) (now (table .exit)) (now (list .exit)) ⌝ }
+{
+    let mut room = [0u8; LINE];
+    let n = answer(done, input, table, list, &mut room);
+    print(done, &room[..n])
+}
+
+// Prints how many bytes were left over, if any were.
+fn print_cut(done: u64, left: usize)
+    requires { ⌜ (done + 1 < 2 ^ 64) × (left < commandLength) ⌝ }
+{
+    if left == 0 {
+        return;
     }
-    next
+    let mut room = [0u8; CUT];
+    let n = line::put_cut(&mut room, left as u64);
+    print(done, &room[..n]);
 }
 
-// How many cards a line shows: never more than the list has.
-fn shown(found: u32) -> usize
-    ensures { λ r. ⌜ r ≤ 512 ⌝ }
+// What reading came to: how many bytes are there, and whether it failed.
+struct Reading {
+    bytes: usize,
+    failed: bool,
+}
+
+// Reads once, behind the bytes that are there; answers how many came.
+fn read_more(input: &mut [u8], have: usize) -> Reading
+    requires { ⌜ have ≤ length (now input) ⌝ }
+    ensures { λ r. ⌜ have + r .bytes ≤ length (now (input .entry)) ⌝ }
 {
-    if found < 512 { found as usize } else { PLACES }
-}
-
-// Prints the first n bytes of the line.
-fn print_front(line: &[u8], n: usize) -> bool {
-    if n <= line.len() {
-        io::write_all(STDOUT_FILENO, &line[..n])
-    } else {
-        false
+    let part = &mut input[have..];
+    let got = libc::read(STDIN_FILENO, part);
+    if got < 0 {
+        return Reading {
+            bytes: 0,
+            failed: true,
+        };
+    }
+    Reading {
+        bytes: io::count(got, part),
+        failed: false,
     }
 }
 
-// Prints a command's line, made in the room lent: its number, refusal, distance count, cards found, and the cards.
-fn print_in(line: &mut [u8], number: u64, r: Report, list: &[u32; PLACES]) -> bool
-    requires { ⌜ 16384 ≤ length (now line) ⌝ }
+// Reads until the record is full, the input ends or reading fails: at each turn so many bytes are there.
+fn read_record(input: &mut [u8]) -> Reading
+    ensures { λ r. ⌜ r .bytes ≤ length (now (input .entry)) ⌝ }
 {
-    let found = shown(r.found);
-    let a = add_number(line, 0, number, b' ');
-    let b = add_number(line, a, r.refusal as u64, b' ');
-    let c = add_number(line, b, wide(r.count), b' ');
-    let d = add_number(line, c, wide(r.found), behind(found == 0));
-    let e = add_cards(line, d, list, found);
-    print_front(line, e)
-}
-
-fn print_line(number: u64, r: Report, list: &[u32; PLACES]) -> bool {
-    let mut line = [0u8; LINE];
-    print_in(&mut line, number, r, list)
-}
-
-// Prints how many bytes were left over.
-fn print_cut(bytes: usize) {
-    io::write_all(STDOUT_FILENO, b"cut ");
-    io::print_decimal(STDOUT_FILENO, bytes as u64);
-    io::write_all(STDOUT_FILENO, b"\n");
-}
-
-// Reads a command, runs it and prints its line; answers whether to go on.
-fn step(number: u64, table: &mut [u8; TABLE], list: &mut [u32; PLACES]) -> bool {
-    let mut record = [0u8; COMMAND];
-    let got = io::read_full(STDIN_FILENO, &mut record);
-    if got < COMMAND {
-        if 0 < got {
-            print_cut(got);
+    let mut have = 0;
+    while have < input.len() {
+        let more = read_more(input, have);
+        if more.failed {
+            return Reading {
+                bytes: have,
+                failed: true,
+            };
         }
+        if more.bytes == 0 {
+            break;
+        }
+        have += more.bytes;
+    }
+    Reading {
+        bytes: have,
+        failed: false,
+    }
+}
+
+// Reads a command, runs it and prints its line; answers whether to go on. Bytes that stand before a failure are not
+// cut: the input has not ended.
+fn step(done: u64, table: &mut [u8; TABLE], list: &mut [u32; PLACES]) -> bool
+    requires { ⌜ (done + 1 < 2 ^ 64) × Reached done (now table) (now list) ⌝ }
+    ensures { λ r. ⌜ (r ≡ true → Reached (done + 1) (now (table .exit)) (now (list .exit))) ⌝ }
+{
+    let mut input = [0u8; COMMAND];
+    let got = read_record(&mut input);
+    if got.failed {
+        complain(
+            b"bench: could not read command ",
+            done + 1,
+            b" from standard input\n",
+        );
         return false;
     }
-    let r = command::run(&record, table, list);
-    print_line(number, r, list)
+    if got.bytes < COMMAND {
+        print_cut(done, got.bytes);
+        return false;
+    }
+    respond(done, &input, table, list)
 }
 
 // A proved loop has to end, and nothing says that the input does: it ends with the command numbers, which no run uses
@@ -114,11 +155,11 @@ fn step(number: u64, table: &mut [u8; TABLE], list: &mut [u32; PLACES]) -> bool 
 fn main() {
     let mut table = [0u8; TABLE];
     let mut list = [0u32; PLACES];
-    let mut number: u64 = 1;
-    while number < u64::MAX {
-        if !step(number, &mut table, &mut list) {
+    let mut done: u64 = 0;
+    while done < u64::MAX {
+        if !step(done, &mut table, &mut list) {
             return;
         }
-        number += 1;
+        done += 1;
     }
 }

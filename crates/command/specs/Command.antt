@@ -1,10 +1,10 @@
 -- "The bench program": a command of 48 bytes, and what it does to the program's table and list.
 use Prim.Native.Nat.{ℕ}
-use mathlib.Core.Path.{_≡_}
+use mathlib.Core.Path.{_≡_, sym, _∙_}
 use mathlib.Core.List.{List}
 use borrow.Author.Tests.{eq-eqb, ne-eqb}
 use lib.Dec.{eqb}
-use lib.ListN.{getD, take, drop}
+use lib.ListN.{length, getD, take, drop}
 use Rattle.places.specs.Choice.{pick}
 use Rattle.number.specs.Number.{numberAt}
 use Rattle.refusals.specs.Refusal.{ARGUMENT}
@@ -22,6 +22,10 @@ pub record Done : Type 0 where
   pub found : ℕ
   pub table : List ℕ
   pub list : List ℕ
+
+-- a record's bytes
+abbrev pub commandLength : ℕ
+commandLength = 48
 
 -- ---- the fields: operation, kind, arity, an unused byte, card, radius, 4 unused bytes, signature
 
@@ -64,8 +68,8 @@ pub same-report :
 same-report l list e i = record { refusal = e .0 i; count = e .1 i; found = e .2 i; table = l; list = list }
 
 -- "operation (1 insert, 2 delete, 3 search, 4 check) .. another operation gives refusal 3, before any other"
-unfoldable pub commandOf : List ℕ → List ℕ → List ℕ → Done
-commandOf c l list =
+unfoldable pub operationOf : List ℕ → List ℕ → List ℕ → Done
+operationOf c l list =
     pick
     (eqb (operation c) 1)
     (ofChange (insertOf l (card c) (kind c) (arity c) (signature c)) list)
@@ -77,35 +81,54 @@ commandOf c l list =
     (ofListing (searchOf l (kind c) (signature c) (radius c) list) l)
     (pick (eqb (operation c) 4) (ofNumber (checkOf l) l list) (ofNumber ARGUMENT l list))))
 
+-- "command records of 48 bytes": one of another length is refused as another operation is, and nothing is touched
+unfoldable pub commandOf : List ℕ → List ℕ → List ℕ → Done
+commandOf c l list = pick (eqb (length c) commandLength) (operationOf c l list) (ofNumber ARGUMENT l list)
+
+-- the contract of a command fixes it: two outcomes that it allows are equal
+pub command-fixed : (c l list : List ℕ) (o p : Done) → o ≡ commandOf c l list → p ≡ commandOf c l list → o ≡ p
+command-fixed c l list o p e f = e ∙ sym f
+
+-- ---- a record's length
+
+module _ (c l list : List ℕ) where
+  pub command-whole : length c ≡ commandLength → commandOf c l list ≡ operationOf c l list
+  unfolding commandOf
+  command-whole e = rw (eq-eqb (length c) commandLength e)
+
+  pub command-length : (length c ≡ commandLength → ⊥) → commandOf c l list ≡ ofNumber ARGUMENT l list
+  unfolding commandOf
+  command-length h = rw (ne-eqb (length c) commandLength h)
+
 -- ---- the outcome of each operation, by its number
 
 module _ (c l list : List ℕ) where
-  pub command-insert :
-      operation c ≡ 1 → commandOf c l list ≡ ofChange (insertOf l (card c) (kind c) (arity c) (signature c)) list
-  unfolding commandOf
-  command-insert e = rw (eq-eqb (operation c) 1 e)
+  pub operation-insert :
+      operation c ≡ 1 → operationOf c l list ≡ ofChange (insertOf l (card c) (kind c) (arity c) (signature c)) list
+  unfolding operationOf
+  operation-insert e = rw (eq-eqb (operation c) 1 e)
 
-  pub command-delete : operation c ≡ 2 → commandOf c l list ≡ ofChange (deleteOf l (card c) (arity c)) list
-  unfolding commandOf
-  command-delete e = rw e
+  pub operation-delete : operation c ≡ 2 → operationOf c l list ≡ ofChange (deleteOf l (card c) (arity c)) list
+  unfolding operationOf
+  operation-delete e = rw e
 
-  pub command-search :
-      operation c ≡ 3 → commandOf c l list ≡ ofListing (searchOf l (kind c) (signature c) (radius c) list) l
-  unfolding commandOf
-  command-search e = rw e
+  pub operation-search :
+      operation c ≡ 3 → operationOf c l list ≡ ofListing (searchOf l (kind c) (signature c) (radius c) list) l
+  unfolding operationOf
+  operation-search e = rw e
 
-  pub command-check : operation c ≡ 4 → commandOf c l list ≡ ofNumber (checkOf l) l list
-  unfolding commandOf
-  command-check e = rw e
+  pub operation-check : operation c ≡ 4 → operationOf c l list ≡ ofNumber (checkOf l) l list
+  unfolding operationOf
+  operation-check e = rw e
 
-  pub command-other :
+  pub operation-other :
       (operation c ≡ 1 → ⊥)
       → (operation c ≡ 2 → ⊥)
       → (operation c ≡ 3 → ⊥)
       → (operation c ≡ 4 → ⊥)
-      → commandOf c l list ≡ ofNumber ARGUMENT l list
-  unfolding commandOf
-  command-other a b d e =
+      → operationOf c l list ≡ ofNumber ARGUMENT l list
+  unfolding operationOf
+  operation-other a b d e =
       rw (
         ne-eqb (operation c) 1 a,
         ne-eqb (operation c) 2 b,

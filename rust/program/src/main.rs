@@ -1,7 +1,9 @@
 //! Compares what the bench program prints with what the model prints: `program PATH [seed] [amount]`. Without a path it
-//! is the model's own bench program, standard input to standard output, so that the comparison can be tried on itself.
+//! is the model's own bench program, standard input to standard output, so that the comparison can be tried on itself;
+//! that one reads all its input first and is silent where it fails, so what is asked of failures goes red on it.
 
 mod commands;
+mod failures;
 mod pipe;
 
 use commands::Writer;
@@ -56,10 +58,29 @@ fn first_difference(printed: &str, right: &str) -> String {
     format!("line {}: {:?} and not {:?}", number + 1, line(printed), line(right))
 }
 
-/// What the program at the path prints, held against the model; returns how many inputs passed and how many failed.
-fn compare(path: &str, seed: u64, amount: usize) -> (usize, usize) {
+/// Counts what was tried by whether anything was wrong with it, and tells what was.
+#[derive(Default)]
+struct Tally {
+    passed: usize,
+    failed: usize,
+}
+
+impl Tally {
+    fn note(&mut self, name: &str, wrong: Option<String>) {
+        match wrong {
+            None => self.passed += 1,
+            Some(why) => {
+                self.failed += 1;
+                println!("FAILED: {name}: {why}");
+            }
+        }
+    }
+}
+
+/// What the program at the path prints, held against the model.
+fn compare(tally: &mut Tally, path: &str, seed: u64, amount: usize) {
     let inputs = inputs(&mut Random::new(seed), amount);
-    let (mut passed, mut failed, mut lines) = (0, 0, 0);
+    let mut lines = 0;
     let mut last = Duration::ZERO;
     for (name, input, pieces) in &inputs {
         let right = program::run(&mut Model, input);
@@ -71,20 +92,20 @@ fn compare(path: &str, seed: u64, amount: usize) -> (usize, usize) {
             }
             Err(why) => Some(why),
         };
-        match wrong {
-            None => passed += 1,
-            Some(why) => {
-                failed += 1;
-                println!("FAILED: {name}: {why}");
-            }
-        }
+        tally.note(name, wrong);
     }
     println!(
         "{} inputs, {lines} lines compared; the last, 10,000 commands, took {} ms",
         inputs.len(),
         last.as_millis()
     );
-    (passed, failed)
+}
+
+/// What the program does where its input or output fails.
+fn fail(tally: &mut Tally, path: &str) {
+    let cases = failures::all(path);
+    println!("{} failures of input or output tried", cases.len());
+    cases.into_iter().for_each(|(name, wrong)| tally.note(name, wrong));
 }
 
 fn stand_in() -> std::io::Result<()> {
@@ -109,9 +130,11 @@ fn main() -> ExitCode {
         }
     };
     println!("seed {seed}, {amount} histories");
-    let (passed, failed) = compare(&path, seed, amount);
-    println!("{passed} passed, {failed} failed");
-    if failed == 0 {
+    let mut tally = Tally::default();
+    compare(&mut tally, &path, seed, amount);
+    fail(&mut tally, &path);
+    println!("{} passed, {} failed", tally.passed, tally.failed);
+    if tally.failed == 0 {
         ExitCode::SUCCESS
     } else {
         ExitCode::FAILURE
