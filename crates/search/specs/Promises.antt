@@ -148,7 +148,8 @@ module _ (l : List ℕ) (kind : ℕ) (s : List ℕ) where
     pub listed-cards : listedBy ≡ found
     unfolding listing
     listed-cards =
-        rw (accepted-is l kind s r list e, from-start found list fits) (take-append-seam found (drop (length found) list))
+        rw (accepted-is l kind s r list e, from-start found list fits)
+        (take-append-seam found (drop (length found) list))
 
     -- "later entries stay"
     pub later-stay :
@@ -156,7 +157,8 @@ module _ (l : List ℕ) (kind : ℕ) (s : List ℕ) where
         ≡ drop (searchOf l kind s r list .found) list
     unfolding listing
     later-stay =
-        rw (accepted-is l kind s r list e, from-start found list fits) (drop-append-seam found (drop (length found) list))
+        rw (accepted-is l kind s r list e, from-start found list fits)
+        (drop-append-seam found (drop (length found) list))
 
     -- no card is listed twice
     pub listed-once : Distinct listedBy
