@@ -4,7 +4,8 @@
 -- Promises   the promises, whole: demand 1 for each call, demand 3 over histories, and that contracts fix outcomes
 -- The other files prove them: each call's two cases (Refused); what holds in a cleared table and in one that a call
 -- leaves (Holds); that every call keeps it (Kept); what a search, a check, and a question for what is stored give where
--- it holds (Searched, Inventory); and what check's answer means of any table (Complete).
+-- it holds (Searched, Inventory); free records behind a table (Longer); and what check's answer means of any table
+-- (Complete).
 -- The paper's listing and P1 to P13 are in the crate `listing`.
 pub mod History
 pub mod Demands
@@ -12,6 +13,7 @@ pub mod Refused
 pub mod Holds
 pub mod Kept
 pub mod Searched
+pub mod Longer
 pub mod Complete
 pub mod Inventory
 pub mod Promises

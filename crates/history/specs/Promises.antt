@@ -1,7 +1,7 @@
--- The promises, whole. Each call's outcome (`clearOf`, `insertOf`, `deleteOf`, `searchOf`, `checkOf`) is what its
--- contract equates the code with, so each statement here is about what the code does. Read first History.antt, what a
--- history is, and Demands.antt, what is asked. Assumes nothing.
-use Prim.Native.Nat.{ℕ, _≤_}
+-- The promises, whole. Each call's outcome (`clearOf`, `insertOf`, `deleteOf`, `searchOf`, `checkOf`, `allCardsOf`,
+-- `oneCardOf`) is what its contract equates the code with, so each statement here is about what the code does. Read
+-- first History.antt, what a history is, and Demands.antt, what is asked. Assumes nothing.
+use Prim.Native.Nat.{ℕ, _+_, _≤_}
 use mathlib.Core.Path.{_≡_, refl, sym, _∙_}
 use mathlib.Core.Bool.{true, _&&_, not}
 use mathlib.Core.Logic.{_↔_}
@@ -36,6 +36,7 @@ use Rattle.inventory.specs.Card as Card
 use Rattle.inventory.specs.Promises as Inventories
 use Rattle.history.specs.History.{Call, AllTyped, State, cleared, run}
 use Rattle.history.specs.Demands.{Holds, Finds, ListsExactly, Refuses}
+use Rattle.history.specs.Longer.{longer, longer-holds}
 use Rattle.history.specs.Complete.{check-exactly}
 use Rattle.history.specs.Kept.{run-holds}
 use Rattle.history.specs.Searched.{search-finds, check-done}
@@ -151,6 +152,10 @@ module _ {n : ℕ} (some : 1 ≤ n) (small : n ≤ mostRecords) (calls : List Ca
   -- the table is well formed and sound, and its used records are exactly the stored cards
   pub history-holds : Holds n reached
   history-holds = run-holds some small calls typed
+
+  -- free records behind the table give it more room and change nothing else, so that a history can go on in it
+  pub history-longer : (k : ℕ) → Holds (n + k) (longer k reached)
+  history-longer k = longer-holds k history-holds
 
   -- every accepted search lists each stored card within the radius once and no other, and compares none twice
   pub history-search :

@@ -41,3 +41,9 @@ pub zeros-at : (n k : ℕ) → _≡_ {A = ℕ} (getD (replicate n 0) k 0) 0
 zeros-at zero k = refl
 zeros-at (suc n) zero = refl
 zeros-at (suc n) (suc k) = zeros-at n k
+
+-- and behind a list they read as what is not there
+pub zeros-behind : (l : List ℕ) (n k : ℕ) → getD (l ++ replicate n 0) k 0 ≡ getD l k 0
+zeros-behind [] n k = zeros-at n k
+zeros-behind (x ∷ l) n zero = refl
+zeros-behind (x ∷ l) n (suc k) = zeros-behind l n k

@@ -88,9 +88,9 @@ pub extern "C" fn plotvuga_cards(table: &[u8], list: &mut [u32], found: &mut u32
         (record { refusal = r; found = now (found .exit); list = now (list .exit) })
         (allCardsOf (now (table .entry)) (now (list .entry))) ⌝ }
 {
-    let r = inventory::cards(table, list);
-    *found = r.found;
-    r.refusal as u32
+    let listed = inventory::cards(table, list);
+    *found = listed.found;
+    listed.refusal as u32
 }
 
 #[no_mangle]

@@ -2,17 +2,17 @@
 -- of `recordOf`. Assumes nothing.
 use Prim.Native.Nat.{ℕ, _+_, _*_, _≤_, _<_}
 use mathlib.Core.Path.{_≡_}
-use mathlib.Core.List.{List}
+use mathlib.Core.List.{List, _++_}
 use native.Mathlib.Omega.{arith}
 use lib.ListN.{length, replicate, List·getD-eq-default}
-use Rattle.places.specs.Fill.{zeros-at}
+use Rattle.places.specs.Fill.{zeros-at, zeros-behind}
 use Rattle.number.specs.Number.{numberAt}
 use Rattle.number.specs.Frame.{Bytes}
 use Rattle.refusals.specs.Limits.{mostChildren}
 use Rattle.table.specs.Record.{free, slot, slotsAt, placeOf, recordOf}
 use Rattle.table.specs.Table.{recordsIn, freeTable}
 use Rattle.table.specs.Stands.{WholeRecords, AreRecords, are-whole, are-in, past-place}
-use Rattle.table.specs.Fields.{slot-in, slots-eight, readings-sixteen}
+use Rattle.table.specs.Fields.{slot-in, slots-eight, readings-sixteen, record-alike}
 use Rattle.table.specs.Fields.{zeros-free, ZeroWords, words-free, free-words}
 
 -- ---- its rows
@@ -61,6 +61,17 @@ free-table n s = all-free (placeOf n) s
 pub free-bytes : (n : ℕ) → Bytes (freeTable n)
 unfolding freeTable
 free-bytes n i = omega (arith, zeros-at (placeOf n) i)
+
+-- free records behind a table change none of its records
+pub free-behind : (l : List ℕ) (k s : ℕ) → recordOf (l ++ freeTable k) s ≡ recordOf l s
+unfolding recordOf freeTable
+free-behind l k s =
+    record-alike (l ++ replicate (placeOf k) 0) (placeOf s) l (placeOf s)
+    (λ j p. zeros-behind l (placeOf k) (placeOf s + j))
+
+pub behind-bytes : (l : List ℕ) (k : ℕ) → Bytes l → Bytes (l ++ freeTable k)
+unfolding freeTable
+behind-bytes l k h i = rw (zeros-behind l (placeOf k) i) (h i)
 
 -- ---- a test for a free record
 

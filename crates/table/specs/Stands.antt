@@ -3,10 +3,10 @@
 use Prim.Native.Nat.{ℕ, _+_, _/_, _%_, _≤_, _<_}
 use mathlib.Core.Path.{_≡_, ap, sym, _∙_}
 use mathlib.Core.Bool.{true, _&&_}
-use mathlib.Core.List.{List}
+use mathlib.Core.List.{List, _++_}
 use native.Mathlib.Omega.{arith}
 use lib.Dec.{leb, eqb}
-use lib.ListN.{length, replicate, length-replicate}
+use lib.ListN.{length, length-append, replicate, length-replicate}
 use borrow.Author.Tests.{leb-true, le-leb, eqb-true, eq-eqb}
 use Rattle.places.specs.Choice.{and-left, and-right, and-both}
 use Rattle.refusals.specs.Limits.{mostRecords, mostChildren}
@@ -91,10 +91,15 @@ pub are-large : (l : List ℕ) (n : ℕ) → AreRecords l n → n ≤ mostRecord
 unfolding AreRecords
 are-large l n e h = omega arith
 
--- n free records are n records, and n records made free are these
+-- n free records are n records, also behind others, and n records made free are these
 pub free-are : (n : ℕ) → AreRecords (freeTable n) n
 unfolding freeTable AreRecords
 free-are n = length-replicate {A = ℕ} (placeOf n) 0
+
+pub are-behind : (l : List ℕ) (n k : ℕ) → AreRecords l n → AreRecords (l ++ freeTable k) (n + k)
+unfolding freeTable AreRecords
+are-behind l n k e =
+    omega (arith, length-append l (replicate (placeOf k) 0), length-replicate {A = ℕ} (placeOf k) 0, e)
 
 pub are-free : (l : List ℕ) (n : ℕ) → AreRecords l n → replicate (length l) 0 ≡ freeTable n
 unfolding freeTable AreRecords
