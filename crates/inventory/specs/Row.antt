@@ -5,7 +5,6 @@ use mathlib.Core.Path.{_≡_, refl, sym, ap, ap₂, subst, _∙_}
 use mathlib.Core.List.{List, [], _∷_, _++_}
 use native.Mathlib.Omega.{arith}
 use native.Mathlib.Numerals.{add-one}
-use native.Mathlib.Nat.{zero-add}
 use lib.ListN.{length, take, drop, getD}
 use lib.Seq.{sets, take-suc, take-all, length-take-le, drop-append-seam}
 use Rattle.places.specs.Fill.{from-start, sets-append}
@@ -15,21 +14,7 @@ use Rattle.refusals.specs.Limits.{signatureLength}
 use Rattle.table.specs.Table.{numbers}
 use Rattle.table.specs.RoundTrip.{numbers-length}
 use Rattle.writing.specs.Put.{putReadings}
-use Rattle.writing.specs.Run.{readings-more, readings-put}
-
--- ---- one turn of the loop that writes them
-
-pub row-none : (row vs : List ℕ) → row ≡ putReadings 0 row 0 vs
-unfolding putReadings
-row-none row vs = refl
-
-pub row-more :
-    (row vs : List ℕ) (n : ℕ) (t : List ℕ) (v : ℕ)
-    → t ≡ putReadings n row 0 vs
-    → v ≡ getD vs n 0
-    → withNumber 2 t (2 * n) v ≡ putReadings (n + 1) row 0 vs
-row-more row vs n t v e ev =
-    ap (λ (at : ℕ). withNumber 2 t at v) (sym (zero-add (2 * n))) ∙ readings-more row 0 vs n t v e ev
+use Rattle.writing.specs.Run.{readings-put}
 
 -- ---- bytes laid from the row's start
 

@@ -1,14 +1,9 @@
 // What one card was stored with: the call, with its refusals.
 ghost use mathlib.Core.Path.{_≡_};
-ghost use Prim.Native.Nat.{_≤_};
-ghost use lib.ListN.{length};
-ghost use Rattle.refusals.specs.Limits.{signatureLength};
 ghost use Rattle.table.specs.Record.{recordOf};
 ghost use Rattle.table.specs.Stands.{Stands};
-ghost use Rattle.writing.specs.Put.{putReadings};
 ghost use Rattle.inventory.specs.Card.{outcome, oneCardOf};
 ghost use Rattle.inventory.specs.Tests.{tellingAt};
-use distance::Signature;
 use refusals::ABSENT;
 use refusals::ARGUMENT;
 use refusals::DONE;
@@ -31,16 +26,6 @@ fn refused(refusal: u8) -> Told
     }
 }
 
-// The signature's bytes from the row's start on. At each turn the first k readings are written.
-fn put_row(row: &mut [u8], v: Signature)
-    requires { ⌜ signatureLength ≤ length (now row) ⌝ }
-    ensures { λ _. ⌜ now (row .exit) ≡ putReadings 16 (now (row .entry)) 0 (v .readings) ⌝ }
-{
-    for k in 0..16usize {
-        number::put_u16(row, 2 * k, v.readings[k]);
-    }
-}
-
 // What the record in slot s was stored with, if the row has room for it.
 fn tell(t: &[u8], s: usize, row: &mut [u8]) -> Told
     requires { ⌜ Stands (now t) s ⌝ }
@@ -51,7 +36,7 @@ fn tell(t: &[u8], s: usize, row: &mut [u8]) -> Told
     if row.len() < SIGNATURE {
         return refused(SHORT);
     }
-    put_row(row, table::signature_of(t, s));
+    writing::put_readings(row, 0, table::signature_of(t, s));
     Told {
         refusal: DONE,
         kind: table::kind_of(t, s),

@@ -4,8 +4,8 @@ use Prim.Native.Nat.{ℕ, suc, _+_, _*_, _^_, _≤_, _<_}
 use mathlib.Core.List.{List, [], _∷_, _++_}
 use native.Mathlib.Omega.{arith}
 use lib.ListN.{length, getD, length-append}
-use Rattle.line.specs.Line.{space, newline, digits, rowOf, lineOf, cutOf}
-use Rattle.line.specs.Digits.{few-digits-8, few-digits-32, few-digits-64}
+use Rattle.line.specs.Line.{space, newline, decimal, rowOf, lineOf, cutOf}
+use Rattle.line.specs.Decimal.{few-digits-8, few-digits-32, few-digits-64}
 use Rattle.line.specs.Laws.{cut-length}
 
 -- a number of 32 bits takes a space and ten digits; the command number takes twenty, the refusal three
@@ -22,7 +22,7 @@ row-fits [] h = omega arith
 row-fits (n ∷ ns) h =
     omega (
       arith,
-      length-append (space ∷ digits n) (rowOf ns),
+      length-append (space ∷ decimal n) (rowOf ns),
       few-digits-32 n (h 0),
       row-fits ns (λ i. h (suc i)),
     )
@@ -38,11 +38,11 @@ pub line-fits :
 unfolding lineOf rowOf
 line-fits number refusal count found cards n r c f h =
     let row = rowOf (refusal ∷ count ∷ found ∷ cards) in
-    let line = length-append (digits number ++ row) (newline ∷ []) in
-    let front = length-append (digits number) row in
-    let one = length-append (space ∷ digits refusal) (rowOf (count ∷ found ∷ cards)) in
-    let two = length-append (space ∷ digits count) (rowOf (found ∷ cards)) in
-    let three = length-append (space ∷ digits found) (rowOf cards) in
+    let line = length-append (decimal number ++ row) (newline ∷ []) in
+    let front = length-append (decimal number) row in
+    let one = length-append (space ∷ decimal refusal) (rowOf (count ∷ found ∷ cards)) in
+    let two = length-append (space ∷ decimal count) (rowOf (found ∷ cards)) in
+    let three = length-append (space ∷ decimal found) (rowOf cards) in
     omega (
       arith,
       few-digits-64 number n,

@@ -10,8 +10,8 @@ use borrow.Author.Tests.{le-leb, lt-leb}
 use lib.ListN.{length, getD, set, take, drop, length-append}
 use lib.Seq.{sets, sets-eq, drop-cons, take-append-seam}
 use Rattle.places.specs.Fill.{sets-append}
-use Rattle.line.specs.Line.{space, newline, cutWord, digit, digits, rowOf, lineOf, cutOf, Laid, laid, lineInto}
-use Rattle.line.specs.Digits.{digits-one, digits-more}
+use Rattle.line.specs.Line.{space, newline, cutWord, digit, decimal, rowOf, lineOf, cutOf, Laid, laid, lineInto}
+use Rattle.line.specs.Decimal.{decimal-one, decimal-more}
 
 -- ---- a number
 
@@ -25,25 +25,25 @@ behind a b l m k i j e p q =
     ∙ sym (sets-append a b l i)
 
 -- a number of one digit
-pub one-digit : (l : List ℕ) (at n : ℕ) → n < 10 → set l at (digit n) ≡ sets l at (digits n)
-one-digit l at n h = rw (digits-one n h)
+pub one-digit : (l : List ℕ) (at n : ℕ) → n < 10 → set l at (digit n) ≡ sets l at (decimal n)
+one-digit l at n h = rw (decimal-one n h)
 
 -- a tenth is written, and then the last digit
 pub last-digit :
     (l m : List ℕ) (at end n : ℕ)
     → 10 ≤ n
-    → m ≡ sets l at (digits (n / 10))
-    → end ≡ at + length (digits (n / 10))
-    → set m end (digit (n % 10)) ≡ sets l at (digits n)
+    → m ≡ sets l at (decimal (n / 10))
+    → end ≡ at + length (decimal (n / 10))
+    → set m end (digit (n % 10)) ≡ sets l at (decimal n)
 last-digit l m at end n h e p =
     let last = digit (n % 10) ∷ [] in
-    behind (digits (n / 10)) last l m (sets m end last) at end e p refl
-    ∙ ap (λ (ds : List ℕ). sets l at ds) (sym (digits-more n h))
+    behind (decimal (n / 10)) last l m (sets m end last) at end e p refl
+    ∙ ap (λ (ds : List ℕ). sets l at ds) (sym (decimal-more n h))
 
 -- a space and a number behind it
 pub space-first :
-    (l : List ℕ) (at n : ℕ) → sets (set l at space) (at + 1) (digits n) ≡ sets l at (space ∷ digits n)
-space-first l at n = ap (λ (k : ℕ). sets (set l at space) k (digits n)) (add-one at)
+    (l : List ℕ) (at n : ℕ) → sets (set l at space) (at + 1) (decimal n) ≡ sets l at (space ∷ decimal n)
+space-first l at n = ap (λ (k : ℕ). sets (set l at space) k (decimal n)) (add-one at)
 
 -- ---- a row: what is left of the first k numbers, from i on
 
@@ -59,14 +59,14 @@ pub row-next :
     (ns : List ℕ) (k i : ℕ)
     → i < k
     → k ≤ length ns
-    → rowLeft ns k i ≡ (space ∷ digits (getD ns i 0)) ++ rowLeft ns k (i + 1)
+    → rowLeft ns k i ≡ (space ∷ decimal (getD ns i 0)) ++ rowLeft ns k (i + 1)
 unfolding rowLeft rowOf
 row-next ns k i h b =
     let more : k - i ≡ suc (k - (i + 1)) = omega arith in
     let one : drop i ns ≡ getD ns i 0 ∷ drop (suc i) ns = drop-cons ns i 0 (omega arith) in
     ap (λ (j : ℕ). rowOf (take j (drop i ns))) more
     ∙ ap (λ (l : List ℕ). rowOf (take (suc (k - (i + 1))) l)) one
-    ∙ ap (λ (j : ℕ). (space ∷ digits (getD ns i 0)) ++ rowOf (take (k - (i + 1)) (drop j ns))) (sym (add-one i))
+    ∙ ap (λ (j : ℕ). (space ∷ decimal (getD ns i 0)) ++ rowOf (take (k - (i + 1)) (drop j ns))) (sym (add-one i))
 
 -- none is left
 pub row-over : (ns : List ℕ) (k i : ℕ) → k ≤ i → rowLeft ns k i ≡ []
@@ -81,11 +81,11 @@ pub row-next-length :
     → i < k
     → k ≤ length ns
     → x ≡ getD ns i 0
-    → length (rowLeft ns k i) ≡ suc (length (digits x)) + length (rowLeft ns k (i + 1))
+    → length (rowLeft ns k i) ≡ suc (length (decimal x)) + length (rowLeft ns k (i + 1))
 row-next-length ns k i x h b e =
     ap length (row-next ns k i h b)
-    ∙ length-append (space ∷ digits (getD ns i 0)) (rowLeft ns k (i + 1))
-    ∙ ap (λ (y : ℕ). suc (length (digits y)) + length (rowLeft ns k (i + 1))) (sym e)
+    ∙ length-append (space ∷ decimal (getD ns i 0)) (rowLeft ns k (i + 1))
+    ∙ ap (λ (y : ℕ). suc (length (decimal y)) + length (rowLeft ns k (i + 1))) (sym e)
 
 -- a turn: the next number x is written, and what is left goes behind it
 pub row-turn :
@@ -93,26 +93,26 @@ pub row-turn :
     → i < k
     → k ≤ length ns
     → x ≡ getD ns i 0
-    → end ≡ at + suc (length (digits x))
-    → m ≡ sets l at (space ∷ digits x)
+    → end ≡ at + suc (length (decimal x))
+    → m ≡ sets l at (space ∷ decimal x)
     → sets m end (rowLeft ns k (i + 1)) ≡ sets l at (rowLeft ns k i)
 row-turn ns l m k i at end x h b e p q =
     let rest = rowLeft ns k (i + 1) in
-    behind (space ∷ digits x) rest l m (sets m end rest) at end q p refl
-    ∙ ap (λ (y : ℕ). sets l at ((space ∷ digits y) ++ rest)) e
+    behind (space ∷ decimal x) rest l m (sets m end rest) at end q p refl
+    ∙ ap (λ (y : ℕ). sets l at ((space ∷ decimal y) ++ rest)) e
     ∙ ap (λ (r : List ℕ). sets l at r) (sym (row-next ns k i h b))
 
 pub row-append : (a b : List ℕ) → rowOf (a ++ b) ≡ rowOf a ++ rowOf b
 unfolding rowOf
 row-append [] b = refl
 row-append (n ∷ a) b =
-    ap (λ (l : List ℕ). (space ∷ digits n) ++ l) (row-append a b)
-    ∙ sym (append-assoc (space ∷ digits n) (rowOf a) (rowOf b))
+    ap (λ (l : List ℕ). (space ∷ decimal n) ++ l) (row-append a b)
+    ∙ sym (append-assoc (space ∷ decimal n) (rowOf a) (rowOf b))
 
 -- ---- a line: its number, the numbers of its head, the cards, and its end
 
 unfoldable pub lineFrom : ℕ → List ℕ → List ℕ → List ℕ
-lineFrom number head cards = digits number ++ rowOf head ++ rowOf cards ++ (newline ∷ [])
+lineFrom number head cards = decimal number ++ rowOf head ++ rowOf cards ++ (newline ∷ [])
 
 pub line-parts :
     (number refusal count found : ℕ) (cards : List ℕ)
@@ -121,21 +121,21 @@ unfolding lineFrom lineOf
 line-parts number refusal count found cards =
     ap
     (λ (l : List ℕ). l ++ (newline ∷ []))
-    (append-assoc (digits number) (rowOf (refusal ∷ count ∷ found ∷ [])) (rowOf cards)
-    ∙ ap (λ (l : List ℕ). digits number ++ l) (sym (row-append (refusal ∷ count ∷ found ∷ []) cards)))
+    (append-assoc (decimal number) (rowOf (refusal ∷ count ∷ found ∷ [])) (rowOf cards)
+    ∙ ap (λ (l : List ℕ). decimal number ++ l) (sym (row-append (refusal ∷ count ∷ found ∷ []) cards)))
 
 pub line-length :
     (number : ℕ) (head cards : List ℕ)
     → length (lineFrom number head cards)
-    ≡ length (digits number) + length (rowOf head) + length (rowOf cards) + 1
+    ≡ length (decimal number) + length (rowOf head) + length (rowOf cards) + 1
 unfolding lineFrom
 line-length number head cards = simp length-append
 
 -- the four parts written, each behind the one before
 pub line-written :
     (number : ℕ) (head cards l l₁ l₂ l₃ : List ℕ) (a b c : ℕ)
-    → a ≡ 0 + length (digits number)
-    → l₁ ≡ sets l 0 (digits number)
+    → a ≡ 0 + length (decimal number)
+    → l₁ ≡ sets l 0 (decimal number)
     → b ≡ a + length (rowOf head)
     → l₂ ≡ sets l₁ a (rowOf head)
     → c ≡ b + length (rowOf cards)
@@ -143,7 +143,7 @@ pub line-written :
     → set l₃ c newline ≡ sets l 0 (lineFrom number head cards)
 unfolding lineFrom
 line-written number head cards l l₁ l₂ l₃ a b c ea fa eb fb ec fc =
-    let A = digits number in
+    let A = decimal number in
     let B = rowOf head in
     let C = rowOf cards in
     let two = behind A B l l₁ l₂ 0 a fa ea fb in
@@ -162,22 +162,22 @@ line-written number head cards l l₁ l₂ l₃ a b c ea fa eb fb ec fc =
 
 -- ---- the last line
 
-pub cut-length : (left : ℕ) → length (cutOf left) ≡ length (digits left) + 5
+pub cut-length : (left : ℕ) → length (cutOf left) ≡ length (decimal left) + 5
 unfolding cutOf rowOf
 cut-length left =
-    let row = length-append (space ∷ digits left) [] in
-    let all = length-append ((space ∷ digits left) ++ []) (newline ∷ []) in
+    let row = length-append (space ∷ decimal left) [] in
+    let all = length-append ((space ∷ decimal left) ++ []) (newline ∷ []) in
     omega (arith, row, all)
 
 -- the word, then the number behind a space, then the line's end
 pub cut-written :
     (left c : ℕ) (l m : List ℕ)
-    → c ≡ 3 + suc (length (digits left))
-    → m ≡ sets (sets l 0 cutWord) 3 (space ∷ digits left)
+    → c ≡ 3 + suc (length (decimal left))
+    → m ≡ sets (sets l 0 cutWord) 3 (space ∷ decimal left)
     → set m c newline ≡ sets l 0 (cutOf left)
 unfolding cutOf rowOf
 cut-written left c l m e f =
-    let row = space ∷ digits left in
+    let row = space ∷ decimal left in
     let number = f ∙ ap (sets (sets l 0 cutWord) 3) (sym (append-nil row)) in
     let two = behind cutWord (row ++ []) l (sets l 0 cutWord) m 0 3 refl refl number in
     behind

@@ -26,26 +26,26 @@ digit d = 48 + d
 -- ---- numbers
 
 -- n's last digits, the most significant first, in at most so many turns of one digit each
-unfoldable pub digitsWithin : ℕ → ℕ → List ℕ
-digitsWithin zero n = []
-digitsWithin (suc most) n = pick (ltb n 10) (digit n ∷ []) (digitsWithin most (n / 10) ++ (digit (n % 10) ∷ []))
+unfoldable pub decimalWithin : ℕ → ℕ → List ℕ
+decimalWithin zero n = []
+decimalWithin (suc most) n = pick (ltb n 10) (digit n ∷ []) (decimalWithin most (n / 10) ++ (digit (n % 10) ∷ []))
 
 -- n in decimal, without leading zeros. No number has more digits than one more than itself, so no turn is missing:
--- digits n ≡ digit n ∷ [] below 10, and else digits n ≡ digits (n / 10) ++ (digit (n % 10) ∷ []) (specs/Digits)
-unfoldable pub digits : ℕ → List ℕ
-digits n = digitsWithin (suc n) n
+-- digits n ≡ digit n ∷ [] below 10, and else digits n ≡ digits (n / 10) ++ (digit (n % 10) ∷ []) (specs/Decimal)
+unfoldable pub decimal : ℕ → List ℕ
+decimal n = decimalWithin (suc n) n
 
 -- these numbers, each behind one space
 unfoldable pub rowOf : List ℕ → List ℕ
 rowOf [] = []
-rowOf (n ∷ ns) = (space ∷ digits n) ++ rowOf ns
+rowOf (n ∷ ns) = (space ∷ decimal n) ++ rowOf ns
 
 -- ---- lines
 
 -- "command number from 1, refusal, distance count .., cards found .., then the cards, one space between"
 unfoldable pub lineOf : ℕ → ℕ → ℕ → ℕ → List ℕ → List ℕ
 lineOf number refusal count found cards =
-    digits number ++ rowOf (refusal ∷ count ∷ found ∷ cards) ++ (newline ∷ [])
+    decimal number ++ rowOf (refusal ∷ count ∷ found ∷ cards) ++ (newline ∷ [])
 
 -- "Left-over bytes at the end print a last line, `cut` and their number"
 unfoldable pub cutOf : ℕ → List ℕ

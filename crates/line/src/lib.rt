@@ -5,7 +5,7 @@ ghost use mathlib.Core.Path.{_≡_};
 ghost use mathlib.Core.List.{_∷_};
 ghost use lib.ListN.{length, take};
 ghost use lib.Seq.{sets};
-ghost use Rattle.line.specs.Line.{digits, rowOf, lineOf, cutOf, lineInto, Laid};
+ghost use Rattle.line.specs.Line.{decimal, rowOf, lineOf, cutOf, lineInto, Laid};
 ghost use Rattle.line.specs.Line.{space as Line·space, digit as Line·digit};
 ghost use Rattle.line.specs.Laws.{lineFrom};
 
@@ -25,7 +25,7 @@ fn digit(d: u64) -> u8
 
 // How many digits n has: at each turn so many are counted, and those of `rest` but one are left.
 fn places(n: u64) -> usize
-    ensures { λ r. ⌜ (r ≡ length (digits n)) × (r ≤ 20) ⌝ }
+    ensures { λ r. ⌜ (r ≡ length (decimal n)) × (r ≤ 20) ⌝ }
 {
     let mut counted = 1;
     let mut rest = n;
@@ -38,8 +38,8 @@ fn places(n: u64) -> usize
 
 // Puts n's digits into the bytes from `at` on, those of a tenth first; answers where they end.
 fn put_number(out: &mut [u8], at: usize, n: u64) -> usize
-    requires { ⌜ at + length (digits n) ≤ length (now out) ⌝ }
-    ensures { λ r. ⌜ (r ≡ at + length (digits n)) × (now (out .exit) ≡ sets (now (out .entry)) at (digits n)) ⌝ }
+    requires { ⌜ at + length (decimal n) ≤ length (now out) ⌝ }
+    ensures { λ r. ⌜ (r ≡ at + length (decimal n)) × (now (out .exit) ≡ sets (now (out .entry)) at (decimal n)) ⌝ }
 {
     if n < 10 {
         out[at] = digit(n);
@@ -52,9 +52,9 @@ fn put_number(out: &mut [u8], at: usize, n: u64) -> usize
 
 // Puts a space and n's digits into the bytes from `at` on.
 fn put_next(out: &mut [u8], at: usize, n: u64) -> usize
-    requires { ⌜ at + suc (length (digits n)) ≤ length (now out) ⌝ }
-    ensures { λ r. ⌜ (r ≡ at + suc (length (digits n)))
-        × (now (out .exit) ≡ sets (now (out .entry)) at (Line·space ∷ digits n)) ⌝ }
+    requires { ⌜ at + suc (length (decimal n)) ≤ length (now out) ⌝ }
+    ensures { λ r. ⌜ (r ≡ at + suc (length (decimal n)))
+        × (now (out .exit) ≡ sets (now (out .entry)) at (Line·space ∷ decimal n)) ⌝ }
 {
     out[at] = SPACE;
     put_number(out, at + 1, n)

@@ -2,10 +2,10 @@
 ghost use mathlib.Core.Path.{_≡_};
 ghost use Prim.Native.Nat.{_+_, _≤_, _<_};
 ghost use lib.ListN.{length};
-ghost use Rattle.refusals.specs.Limits.{mostChildren};
+ghost use Rattle.refusals.specs.Limits.{mostChildren, signatureLength};
 ghost use Rattle.table.specs.Stands.{Stands};
 ghost use Rattle.writing.specs.Put.{putCard, putTimestamp, putRadius, putParent, putCount, putKind, putSlot};
-ghost use Rattle.writing.specs.Put.{putSignature, zeroed, freed};
+ghost use Rattle.writing.specs.Put.{putReadings, putSignature, zeroed, freed};
 ghost use Rattle.writing.specs.Clear.{cleared, clearOf};
 use distance::Signature;
 use refusals::DONE;
@@ -69,14 +69,21 @@ pub fn put_slot(t: &mut [u8], s: usize, i: usize, v: u16)
     number::put_u16(t, s * RECORD + SLOTS + 2 * i, v);
 }
 
-// At each turn the first k readings are written.
+// A signature's bytes from `at` on. At each turn the first k readings are written.
+pub fn put_readings(l: &mut [u8], at: usize, v: Signature)
+    requires { ⌜ at + signatureLength ≤ length (now l) ⌝ }
+    ensures { λ _. ⌜ now (l .exit) ≡ putReadings 16 (now (l .entry)) at (v .readings) ⌝ }
+{
+    for k in 0..16usize {
+        number::put_u16(l, at + 2 * k, v.readings[k]);
+    }
+}
+
 pub fn put_signature(t: &mut [u8], s: usize, v: Signature)
     requires { ⌜ Stands (now t) s ⌝ }
     ensures { λ _. ⌜ now (t .exit) ≡ putSignature (now (t .entry)) s (v .readings) ⌝ }
 {
-    for k in 0..16usize {
-        number::put_u16(t, s * RECORD + SIGNATURE + 2 * k, v.readings[k]);
-    }
+    put_readings(t, s * RECORD + SIGNATURE, v)
 }
 
 // Makes n bytes from `from` on zero. At each turn the first k of them are.

@@ -7,8 +7,8 @@ use borrow.Author.Needs.{needs}
 use borrow.Fn.Kinds.{In}
 use borrow.Fn.PlainCycle.{Measures, is, falls, and}
 use lib.ListN.{length, set}
-use Rattle.line.specs.Line.{digits}
-use Rattle.line.specs.Digits.{length-one, length-more}
+use Rattle.line.specs.Line.{decimal}
+use Rattle.line.specs.Decimal.{length-one, length-more}
 use Rattle.line.specs.Laws.{one-digit, last-digit}
 use Rattle.line.proofs.put_number.Reads as put-number
 use Rattle.line.proofs.put_number.Kinds as put-number-kinds
@@ -50,7 +50,7 @@ module _ (t : ℕ) where
   -- the number has more digits than one
   large :
       (c : put-number-lts.After-put-number (Known t) (put-number-at t) put-number.Post)
-      → length (digits (begun c .args .n)) ≡ length (digits (begun c .args .n / 10)) + 1
+      → length (decimal (begun c .args .n)) ≡ length (decimal (begun c .args .n / 10)) + 1
   large c = length-more (begun c .args .n) (c .before .before .if1 .left)
 
   -- ---- needs

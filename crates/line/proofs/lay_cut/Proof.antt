@@ -4,7 +4,7 @@ use mathlib.Core.Path.{_≡_, _∙_}
 use native.Mathlib.Omega.{arith}
 use lib.ListN.{length, length-set}
 use lib.Seq.{length-sets}
-use Rattle.line.specs.Line.{cutWord, digits, newline}
+use Rattle.line.specs.Line.{cutWord, decimal, newline}
 use Rattle.line.specs.Laws.{cut-length, cut-written}
 use Rattle.line.proofs.lay_cut.Statement.{statement}
 use Rattle.line.proofs.lay_cut.Tie as tie
@@ -13,7 +13,7 @@ abbrev start : tie.After-put-next → tie.Start
 start c = c .before .before .before
 
 -- the whole line fits
-room : (c : tie.Start) → length (digits (c .args .left)) + 5 ≤ length (c .args .out .now)
+room : (c : tie.Start) → length (decimal (c .args .left)) + 5 ≤ length (c .args .out .now)
 room c = omega (arith, c .pre, cut-length (c .args .left))
 
 -- as many bytes as were lent

@@ -5,7 +5,7 @@ use mathlib.Core.List.{List}
 use native.Mathlib.Omega.{arith}
 use lib.ListN.{length, length-set, take}
 use lib.Seq.{sets, take-all}
-use Rattle.line.specs.Line.{digits, rowOf, newline}
+use Rattle.line.specs.Line.{decimal, rowOf, newline}
 use Rattle.line.specs.Laws.{line-length, line-written}
 use Rattle.line.proofs.lay_line.Statement.{statement}
 use Rattle.line.proofs.lay_line.Tie as tie
@@ -31,7 +31,7 @@ whole c = take-all 3 (c .args .head .now) (omega (arith, c .pre .0))
 -- all four parts fit
 room : (c : tie.Start) →
     let a = c .args in
-    length (digits (a .number)) + length (rowOf (a .head .now)) + length (rowOf (take (a .k) (a .cards .now))) + 1
+    length (decimal (a .number)) + length (rowOf (a .head .now)) + length (rowOf (take (a .k) (a .cards .now))) + 1
     ≤ length (a .out .now)
 room c =
     let a = c .args in
@@ -40,7 +40,7 @@ room c =
 -- where the head ends, and the cards
 head-end : (c : tie.After-put-row) →
     let a = begun (first c) .args in
-    c .put-row .result ≡ length (digits (a .number)) + length (rowOf (a .head .now))
+    c .put-row .result ≡ length (decimal (a .number)) + length (rowOf (a .head .now))
 head-end c =
     omega (
       arith,
@@ -52,7 +52,7 @@ head-end c =
 cards-end : (c : tie.After-put-row2) →
     let a = begun (first (second c)) .args in
     c .put-row2 .result
-    ≡ length (digits (a .number)) + length (rowOf (a .head .now)) + length (rowOf (take (a .k) (a .cards .now)))
+    ≡ length (decimal (a .number)) + length (rowOf (a .head .now)) + length (rowOf (take (a .k) (a .cards .now)))
 cards-end c = omega (arith, c .put-row2 .ensures .0, head-end (second c))
 
 -- as many bytes as were lent

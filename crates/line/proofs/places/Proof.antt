@@ -5,14 +5,14 @@ use mathlib.Core.Path.{_≡_}
 use native.Mathlib.Omega.{arith}
 use borrow.Author.Needs.{needs}
 use lib.ListN.{length}
-use Rattle.line.specs.Line.{digits}
-use Rattle.line.specs.Digits.{length-one, length-more, some-digit, few-digits-64}
+use Rattle.line.specs.Line.{decimal}
+use Rattle.line.specs.Decimal.{length-one, length-more, some-digit, few-digits-64}
 use Rattle.line.proofs.places.Statement.{statement}
 use Rattle.line.proofs.places.Tie as tie
 
 abbrev Inv-loop : tie.InvT-loop
 Inv-loop n counted₀ rest₀ counted rest =
-    (counted + length (digits rest) ≡ length (digits n) + 1) × (length (digits n) ≤ 20)
+    (counted + length (decimal rest) ≡ length (decimal n) + 1) × (length (decimal n) ≤ 20)
 
 abbrev μ-loop : tie.MeasureT-loop
 μ-loop n counted₀ rest₀ counted rest = rest

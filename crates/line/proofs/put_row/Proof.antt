@@ -6,7 +6,7 @@ use mathlib.Core.List.{List}
 use native.Mathlib.Omega.{arith}
 use lib.ListN.{length, take}
 use lib.Seq.{sets}
-use Rattle.line.specs.Line.{digits, rowOf}
+use Rattle.line.specs.Line.{decimal, rowOf}
 use Rattle.line.specs.Laws.{rowLeft, row-whole, row-over, row-next-length, row-turn}
 use borrow.Author.Needs.{needs}
 use Rattle.line.proofs.put_row.Statement.{statement}
@@ -34,7 +34,7 @@ next-length : (c : tie.After-wide Inv-loop μ-loop) →
     let t = turn c in
     let a = start t .args in
     length (rowLeft (a .numbers .now) (a .k) (t .before .loop .i))
-    ≡ suc (length (digits (c .wide .result)))
+    ≡ suc (length (decimal (c .wide .result)))
     + length (rowLeft (a .numbers .now) (a .k) (t .before .loop .i + 1))
 next-length c =
     let t = turn c in

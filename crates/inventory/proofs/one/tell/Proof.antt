@@ -13,10 +13,10 @@ use Rattle.inventory.proofs.one.tell.Tie as tie
 abbrev start : tie.Else1 → tie.Start
 start c = c .before .before .before
 
-abbrev put : tie.After-kind-of → tie.After-put-row
+abbrev put : tie.After-kind-of → tie.After-put-readings
 put c = c .before .before .before
 
-abbrev signed : tie.After-put-row → tie.After-signature-of
+abbrev signed : tie.After-put-readings → tie.After-signature-of
 signed c = c .before
 
 abbrev roomy : tie.After-signature-of → tie.Else1
@@ -36,8 +36,8 @@ returns c =
 signature-of-requires : tie.Need-signature-of-requires
 signature-of-requires c κs = search needs
 
-put-row-requires : tie.Need-put-row-requires
-put-row-requires c κs = search needs
+put-readings-requires : tie.Need-put-readings-requires
+put-readings-requires c κs = search needs
 
 kind-of-requires : tie.Need-kind-of-requires
 kind-of-requires c κs = search needs
@@ -51,7 +51,8 @@ returns-2 c =
     let s = signed p in
     let a = start (roomy s) .args in
     telling-done (recordOf (a .t .now) (a .s)) (a .row .now) (omega (arith, roomy s .if1 .left))
-    (readings-length-of (a .t .now) (a .s)) _ _ _ (c .kind-of .ensures) (s .signature-of .ensures) (p .put-row .ensures)
+    (readings-length-of (a .t .now) (a .s)) _ _ _
+    (c .kind-of .ensures) (s .signature-of .ensures) (p .put-readings .ensures)
 
 pub tell-spec : {M : Type 1} → statement M
 tell-spec =
@@ -60,7 +61,7 @@ tell-spec =
     refused-requires
     returns
     signature-of-requires
-    put-row-requires
+    put-readings-requires
     kind-of-requires
     same-length
     returns-2)

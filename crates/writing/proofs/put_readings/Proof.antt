@@ -1,21 +1,24 @@
--- `inventory::one::put_row` meets its contract. The loop's invariant: the first k readings are written. Assumes
--- nothing.
-use Prim.Native.Nat.{_≤_, _-_}
+-- `writing::put_readings` meets its contract. The loop's invariant: the first k readings are written. Assumes nothing.
+use Prim.Native.Nat.{_+_, _≤_, _-_}
 use mathlib.Core.Path.{_≡_, refl, _∙_}
 use lib.ListN.{length}
+use Rattle.refusals.specs.Limits.{signatureLength}
 use Rattle.writing.specs.Put.{putReadings}
-use Rattle.inventory.specs.Row.{row-none, row-more}
+use Rattle.writing.specs.Run.{readings-more}
 use native.Mathlib.Omega.{arith}
 use borrow.Author.Needs.{needs}
-use Rattle.inventory.proofs.one.put_row.Statement.{statement}
-use Rattle.inventory.proofs.one.put_row.Tie as tie
+use Rattle.writing.proofs.put_readings.Statement.{statement}
+use Rattle.writing.proofs.put_readings.Tie as tie
 
 abbrev Inv-loop : tie.InvT-loop
-Inv-loop row₀ v k₀ row k =
-    (k ≤ 16) × (length row ≡ length row₀) × (row ≡ putReadings k row₀ 0 (v .readings)) × (32 ≤ length row₀)
+Inv-loop l₀ at v k₀ l k =
+    (k ≤ 16)
+    × (length l ≡ length l₀)
+    × (l ≡ putReadings k l₀ at (v .readings))
+    × (at + signatureLength ≤ length l₀)
 
 abbrev μ-loop : tie.MeasureT-loop
-μ-loop row₀ v k₀ row k = 16 - k
+μ-loop l₀ at v k₀ l k = 16 - k
 
 -- ---- stations: the loop, seen from the end of a turn, and the start, seen from the loop
 
@@ -28,10 +31,14 @@ start c = c .before .before
 -- ---- needs
 
 loop-holds : tie.Need-loop-holds Inv-loop μ-loop
-loop-holds c = (omega arith, refl, row-none _ _, c .before .pre)
+unfolding putReadings
+loop-holds c = search needs
 
 mul-put-u16 : tie.Need-mul-put-u16 Inv-loop μ-loop
 mul-put-u16 c = search needs
+
+add-put-u16 : tie.Need-add-put-u16 Inv-loop μ-loop
+add-put-u16 c = search needs
 
 mul-put-u16-2 : tie.Need-mul-put-u16-2 Inv-loop μ-loop
 mul-put-u16-2 c = search needs
@@ -55,7 +62,8 @@ loop-again c =
     let a = start (loop written) .args in (
       omega arith,
       search needs,
-      written .put-u16 .ensures ∙ row-more (a .row .now) (a .t2 .readings) (l .k) (l .row) _ (l .inv .2) refl,
+      written .put-u16 .ensures
+          ∙ readings-more (a .l .now) (a .at) (a .t3 .readings) (l .k) (l .l) _ (l .inv .2) refl,
       l .inv .3,
     )
 
@@ -68,14 +76,15 @@ returns c =
     let e : l .k ≡ 16 = omega arith in
     rw e at (l .inv .2)
 
-pub put-row-spec : {M : Type 1} → statement M
-put-row-spec =
+pub put-readings-spec : {M : Type 1} → statement M
+put-readings-spec =
     tie.close
     (tie.spec
     Inv-loop
     μ-loop
     loop-holds
     mul-put-u16
+    add-put-u16
     mul-put-u16-2
     element-copy-out-put-u16
     put-u16-requires
