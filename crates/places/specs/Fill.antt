@@ -33,7 +33,7 @@ sets-append [] b l i = rw (add-zero i)
 sets-append (x ∷ a) b l i = sets-append a b (set l i x) (suc i) ∙ rw (add-suc i (length a), suc-add i (length a))
 
 -- a run of entries from the start: the list is these, and then what it was
-pub from-start : (cs l : List ℕ) → length cs ≤ length l → sets l 0 cs ≡ cs ++ drop (length cs) l
+pub from-start : {A : Type 0} (cs l : List A) → length cs ≤ length l → sets l 0 cs ≡ cs ++ drop (length cs) l
 from-start cs l h = sets-eq cs l 0 (omega arith) ∙ ap (λ (k : ℕ). cs ++ drop k l) (zero-add (length cs))
 
 -- a list of zeros reads as 0 at every place

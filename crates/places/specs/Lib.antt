@@ -5,6 +5,7 @@
 -- Count      what a count of 0, 1 or more says of the places
 -- Decides    a test that says yes exactly where a statement holds; tests joined
 -- Row        the row of f 0, f 1, ..     Fill     a row that a loop fills; entries from its start; zeros
+-- Image      lists and what their elements are sent to
 pub mod Cases
 pub mod Choice
 pub mod Sum
@@ -13,3 +14,4 @@ pub mod Decides
 pub mod Count
 pub mod Row
 pub mod Fill
+pub mod Image

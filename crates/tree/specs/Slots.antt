@@ -84,12 +84,13 @@ flatMap-same f g [] h = refl
 flatMap-same f g (a ∷ l) h = rw (h a (first refl), flatMap-same f g l (λ b i. h b (later i)))
 
 -- the numbers that a list's elements are sent to
-pub image-from : {A : Type 0} (f : A → ℕ) (c : ℕ) (l : List A) → c ∈ map f l → (a : A) × List·Memᴰ a l × (c ≡ f a)
+pub image-from : {A B : Type 0} (f : A → B) (c : B) (l : List A) → List·Memᴰ c (map f l)
+    → (a : A) × List·Memᴰ a l × (c ≡ f a)
 image-from f c [] i = absurd (List·Memᴰ·not-nil i)
 image-from f c (a ∷ l) (first e) = (a, first refl, e)
 image-from f c (a ∷ l) (later i) = let z = image-from f c l i in (z .0, later (z .1), z .2)
 
-pub image-to : {A : Type 0} (f : A → ℕ) (a : A) (l : List A) → List·Memᴰ a l → f a ∈ map f l
+pub image-to : {A B : Type 0} (f : A → B) (a : A) (l : List A) → List·Memᴰ a l → List·Memᴰ (f a) (map f l)
 image-to f a (b ∷ l) (first e) = first (ap f e)
 image-to f a (b ∷ l) (later i) = later (image-to f a l i)
 
