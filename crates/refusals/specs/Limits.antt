@@ -7,6 +7,10 @@ use lib.Dec.{leb}
 abbrev pub mostRecords : ℕ
 mostRecords = 1024
 
+-- "the k most similar failures, k from 1 to 64" (02, #101)
+abbrev pub mostNearest : ℕ
+mostNearest = 64
+
 -- "child count, 0 to 8"
 abbrev pub mostChildren : ℕ
 mostChildren = 8

@@ -2,6 +2,9 @@
 // The most records that a table has.
 pub const RECORDS: usize = 1024;
 
+// The most cards that a nearest call lists.
+pub const NEAREST: usize = 64;
+
 // The most children that a record has, and so the largest arity.
 pub const CHILDREN: u8 = 8;
 
