@@ -1,5 +1,6 @@
 -- What the proofs of the functions stand on: one turn of each loop, over plain lists.
 mod Insertion
+mod Slipping
 mod Merging
 mod Halves
 mod Look
