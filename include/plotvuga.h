@@ -1,9 +1,9 @@
 /*
  * plotvuga.h: a similarity index for failed relay cards, over one table of bytes that the caller lends.
  *
- * Seven calls. Clear, insert and delete change a table; search, check, cards and card only read it. Each returns a
- * refusal number, 0 if it was done. The library keeps nothing between calls: no heap, no global, no open file. Two
- * threads may call at once as long as neither writes what the other is lent.
+ * Eight calls. Clear, insert and delete change a table; search, nearest, check, cards and card only read it. Each
+ * returns a refusal number, 0 if it was done. The library keeps nothing between calls: no heap, no global, no open
+ * file. Two threads may call at once as long as neither writes what the other is lent.
  *
  * The table. A row of records of 64 bytes, 1 to 1,024 of them, so 64 to 65,536 bytes, at any address. All zero is an
  * empty table; plotvuga_clear makes one of any bytes. Its bytes may be kept in a file or sent elsewhere: numbers stand
@@ -47,9 +47,10 @@
  *   - The stack has room for the call: see PLOTVUGA_STACK.
  *
  * Time. Every call returns, within a time that the table's length bounds, whatever its bytes are. With 1,024 records
- * an insert, a search, cards or card takes some 10 to 40 microseconds on a core of 2.5 GHz, most of it to judge the
- * table; a check, or a delete that puts many records back, about half a millisecond. The worst shape is a chain, which
- * arity 1 makes: a search takes less than 0.1 milliseconds there, a check or a delete of its root some 5 to 10.
+ * an insert, a search, a nearest call, cards or card takes some 10 to 40 microseconds on a core of 2.5 GHz, much of it
+ * to judge the table; a check, or a delete that puts many records back, about half a millisecond. The worst shape is a
+ * chain, which arity 1 makes: a search takes less than 0.1 milliseconds there, a check or a delete of its root some 5
+ * to 10. A nearest call takes 0.1 milliseconds on the worst table known, one whose covering radii were set by hand.
  * docs/PERFORMANCE.md has what was measured.
  */
 #ifndef PLOTVUGA_H
@@ -66,11 +67,11 @@ extern "C" {
  * The version of this header and of the library that belongs to it. MAJOR goes up when the bytes of a table or the
  * answer of a call that was there change: look at your program and at the tables that you keep. MINOR goes up when
  * something is added and all that was there stays. PATCH goes up when only speed, stack or words change. What was there
- * before the header had a number, the five calls without cards and card, counts as 1.0.
- * PLOTVUGA_VERSION is one number of the three, 10100 for 1.1.0, to be held against another in an #if.
+ * before the header had a number, the five calls without cards and card, counts as 1.0; nearest came with 1.2.
+ * PLOTVUGA_VERSION is one number of the three, 10200 for 1.2.0, to be held against another in an #if.
  */
 #define PLOTVUGA_VERSION_MAJOR 1
-#define PLOTVUGA_VERSION_MINOR 1
+#define PLOTVUGA_VERSION_MINOR 2
 #define PLOTVUGA_VERSION_PATCH 0
 #define PLOTVUGA_VERSION (PLOTVUGA_VERSION_MAJOR * 10000 + PLOTVUGA_VERSION_MINOR * 100 + PLOTVUGA_VERSION_PATCH)
 
@@ -78,7 +79,8 @@ enum {
     PLOTVUGA_RECORD = 64,        /* bytes of a record */
     PLOTVUGA_RECORDS = 1024,     /* the most records that a table has */
     PLOTVUGA_SIGNATURE = 32,     /* bytes of a signature */
-    PLOTVUGA_ARITY = 8           /* the most children that a record can have */
+    PLOTVUGA_ARITY = 8,          /* the most children that a record can have */
+    PLOTVUGA_NEAREST = 64        /* the most cards that plotvuga_nearest can be asked for */
 };
 
 /* Bytes of stack that suffice for every call. A search goes as deep as the tree, which is 1,024 records at the worst, a
@@ -96,8 +98,9 @@ enum plotvuga_refusal {
     PLOTVUGA_SIZE = 1,           /* all: table_len is not a multiple of 64 from 64 to 65,536 */
     PLOTVUGA_TABLE = 2,          /* all but clear: the table is not well formed */
     PLOTVUGA_ARGUMENT = 3,       /* insert, delete, card: card 0; insert, delete: arity not 1 to 8;
-                                    insert, search: kind not 1 or 2, or signature_len not 32 */
-    PLOTVUGA_KIND = 4,           /* insert, search: the table holds cards of the other kind */
+                                    insert, search, nearest: kind not 1 or 2, or signature_len not 32;
+                                    nearest: k not 1 to 64 */
+    PLOTVUGA_KIND = 4,           /* insert, search, nearest: the table holds cards of the other kind */
     PLOTVUGA_TWICE = 5,          /* insert: the card is already stored */
     PLOTVUGA_ABSENT = 6,         /* delete, card: the card is not stored */
     PLOTVUGA_FULL = 7,           /* insert: no record is free. Delete a card; or lend a longer table, the same bytes
@@ -107,6 +110,7 @@ enum plotvuga_refusal {
                                     Store the cards anew in a cleared table (plotvuga_cards, plotvuga_card,
                                     plotvuga_insert): its timestamps begin at 1 */
     PLOTVUGA_SHORT = 9,          /* search, cards: list_len is less than the number of stored cards;
+                                    nearest: list_len is less than k, however few are stored;
                                     card: row_len is less than 32 */
     PLOTVUGA_LOOSE = 10          /* check: the table is well formed but not sound. Store its cards anew as for CLOCK */
 };
@@ -125,7 +129,8 @@ static inline const char *plotvuga_refusal_text(uint32_t refusal)
     case PLOTVUGA_TABLE:
         return "the table is not well formed: bring back a copy that was kept, or clear it";
     case PLOTVUGA_ARGUMENT:
-        return "an argument is out of its range: card 1 or more, arity 1 to 8, kind 1 or 2, signature of 32 bytes";
+        return "an argument is out of its range: card 1 or more, arity 1 to 8, kind 1 or 2, signature of 32 bytes, "
+               "k 1 to 64";
     case PLOTVUGA_KIND:
         return "the table holds cards of the other kind: keep a table for each kind";
     case PLOTVUGA_TWICE:
@@ -137,7 +142,8 @@ static inline const char *plotvuga_refusal_text(uint32_t refusal)
     case PLOTVUGA_CLOCK:
         return "no fresh timestamp is left: store the cards anew in a cleared table";
     case PLOTVUGA_SHORT:
-        return "the answer has no room: lend an entry for each stored card, or 32 bytes for a signature";
+        return "the answer has no room: lend an entry for each stored card, k entries for the nearest k, or 32 bytes "
+               "for a signature";
     case PLOTVUGA_LOOSE:
         return "the table is not sound, so that a search can miss a card: store the cards anew in a cleared table";
     default:
@@ -197,6 +203,32 @@ uint32_t plotvuga_delete(uint8_t *table, size_t table_len, uint32_t card, uint8_
 uint32_t plotvuga_search(const uint8_t *table, size_t table_len, uint8_t kind, const uint8_t *signature,
                          size_t signature_len, uint32_t radius, uint32_t *list, size_t list_len, uint32_t *count,
                          uint32_t *found);
+
+/* A stored card, and its distance to the signature that was looked for. */
+struct plotvuga_pair {
+    uint32_t card;
+    uint32_t distance;
+};
+
+/*
+ * Lists the k stored cards nearest to the signature, nearest first, equal distances by smaller card; where fewer than k
+ * are stored, all of them.
+ *   table, table_len          the table, read.
+ *   kind                      1 or 2, the kind of the table's cards; an empty table takes either.
+ *   signature, signature_len  what to look for, 32 bytes, read.
+ *   k                         how many are wanted, 1 to PLOTVUGA_NEAREST.
+ *   list, list_len            where the pairs go, from its start; list_len is its number of entries, not of bytes, and
+ *                             must be at least k, however few cards are stored. Later entries stay.
+ *   count                     set to the number of distances worked out, at most that of stored cards; 0 if refused.
+ *   found                     set to the number of cards listed: k, or all that are stored if those are fewer; 0 if
+ *                             refused.
+ * The list is exactly the first k of all stored cards in that order on every sound table, so on every table that these
+ * calls alone have made. On a table from elsewhere, ask plotvuga_check.
+ * Refusals: SIZE, TABLE, ARGUMENT, KIND, SHORT.
+ */
+uint32_t plotvuga_nearest(const uint8_t *table, size_t table_len, uint8_t kind, const uint8_t *signature,
+                          size_t signature_len, uint32_t k, struct plotvuga_pair *list, size_t list_len,
+                          uint32_t *count, uint32_t *found);
 
 /*
  * Decides whether the table is sound. It is done exactly if every search on this table, whatever its signature and

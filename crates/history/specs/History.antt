@@ -4,7 +4,7 @@
 -- A further call that reads is named in `Reading` and says in `tellsOf` what it reports, no more. One that writes is
 -- named in `Writing`: its arguments' types, its outcome, and what is then stored.
 use Prim.Native.Nat.{ℕ, _^_, _<_}
-use mathlib.Core.List.{List, [], _∷_}
+use mathlib.Core.List.{List, [], _∷_, map}
 use lib.Dec.{eqb}
 use lib.ListN.{take}
 use Rattle.places.specs.Choice.{pick}
@@ -18,6 +18,8 @@ use Rattle.insert.specs.Insert.{insertOf}
 use Rattle.refusals.specs.Outcome.{Outcome}
 use Rattle.delete.specs.Delete.{deleteOf}
 use Rattle.search.specs.Search.{searchOf, Outcome as Listing}
+use Rattle.pairs.specs.declared.Pair.{Pair}
+use Rattle.nearest.specs.Nearest.{nearestOf, Outcome as Nearest}
 use Rattle.soundness.specs.Soundness.{checkOf}
 use Rattle.inventory.specs.Cards.{allCardsOf, Outcome as Inventory}
 use Rattle.inventory.specs.Card.{oneCardOf}
@@ -33,6 +35,7 @@ pub data Writing : Type 0 where
 -- those that read: table and stored cards stay, whatever they are asked
 pub data Reading : Type 0 where
   search : (kind : ℕ) (signature : List ℕ) (radius : ℕ) (list : List ℕ) → Reading
+  nearest : (kind : ℕ) (signature : List ℕ) (k : ℕ) (list : List Pair) → Reading
   check : Reading
   allCards : (list : List ℕ) → Reading
   oneCard : (card : ℕ) (row : List ℕ) → Reading
@@ -117,6 +120,11 @@ ofOutcome o = line (o .refusal) (o .count) 0 []
 abbrev ofListing : Listing → Line
 ofListing o = line (o .refusal) (o .count) (o .found) (take (o .found) (o .list))
 
+-- of the pairs the cards, which the nearest call lists with their distances
+abbrev ofNearest : Nearest → Line
+ofNearest o =
+    line (o .refusal) (o .count) (o .found) (map (λ (p : Pair). p .card) (take (o .found) (o .list)))
+
 abbrev ofInventory : Inventory → Line
 ofInventory o = line (o .refusal) 0 (o .found) (take (o .found) (o .list))
 
@@ -124,6 +132,7 @@ ofInventory o = line (o .refusal) 0 (o .found) (take (o .found) (o .list))
 -- out no distance, and `cards` finds and lists all that are stored
 unfoldable pub tellsOf : Reading → List ℕ → Line
 tellsOf (search kind signature radius list) l = ofListing (searchOf l kind signature radius list)
+tellsOf (nearest kind signature k list) l = ofNearest (nearestOf l kind signature k list)
 tellsOf check l = line (checkOf l) 0 0 []
 tellsOf (allCards list) l = ofInventory (allCardsOf l list)
 tellsOf (oneCard card row) l = line (oneCardOf l card row .refusal) 0 0 []

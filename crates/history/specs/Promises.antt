@@ -1,6 +1,6 @@
--- The promises, whole. Each call's outcome (`clearOf`, `insertOf`, `deleteOf`, `searchOf`, `checkOf`, `allCardsOf`,
--- `oneCardOf`) is what its contract equates the code with, so each statement here is about what the code does. Read
--- first History.antt, what a history is, and Demands.antt, what is asked. Assumes nothing.
+-- The promises, whole. Each call's outcome (`clearOf`, `insertOf`, `deleteOf`, `searchOf`, `nearestOf`, `checkOf`,
+-- `allCardsOf`, `oneCardOf`) is what its contract equates the code with, so each statement here is about what the code
+-- does. Read first History.antt, what a history is, and Demands.antt, what is asked. Assumes nothing.
 use Prim.Native.Nat.{ℕ, _+_, _≤_}
 use mathlib.Core.Path.{_≡_, refl, sym, _∙_}
 use mathlib.Core.Bool.{true, _&&_, not}
@@ -10,7 +10,7 @@ use lib.Dec.{leb, ltb, eqb}
 use lib.ListN.{length}
 use Rattle.number.specs.Frame.{Bytes}
 use Rattle.table.specs.Record.{recordOf}
-use Rattle.refusals.specs.Limits.{mostRecords, lastTimestamp, signatureLength}
+use Rattle.refusals.specs.Limits.{mostRecords, mostNearest, lastTimestamp, signatureLength}
 use Rattle.table.specs.Table.{rightSize, recordsIn, recordsOf}
 use Rattle.writing.specs.Clear.{Cleared, clearOf}
 use Rattle.judge.specs.WellFormed.{WellFormed, wellFormed}
@@ -28,6 +28,10 @@ use Rattle.delete.specs.Promises as Deletes
 use Rattle.search.specs.Search.{searchOf}
 use Rattle.search.specs.Search as Search
 use Rattle.search.specs.Promises.{refusal-is, count-narrower}
+use Rattle.pairs.specs.declared.Pair.{Pair}
+use Rattle.nearest.specs.Nearest.{nearestOf}
+use Rattle.nearest.specs.Nearest as Nearest
+use Rattle.nearest.specs.Promises as Nearests
 use Rattle.soundness.specs.Soundness.{isSound, checkOf}
 use Rattle.inventory.specs.Cards.{allCardsOf}
 use Rattle.inventory.specs.Cards as Cards
@@ -42,6 +46,7 @@ use Rattle.history.specs.Kept.{run-holds}
 use Rattle.history.specs.Searched.{search-finds, check-done}
 use Rattle.history.specs.Refused.{clear-refusal, clear-untouched, insert-refusal, delete-refusal}
 use Rattle.history.specs.Refused.{search-untouched}
+use Rattle.history.specs.Nearest.{FindsNearest, nearest-finds, nearest-untouched}
 use Rattle.history.specs.Inventory.{Lists, Tells, cards-lists, card-tells, cards-untouched, card-untouched}
 
 -- ---- demand 1: each call refuses by the first of its tests that holds, and a refused call leaves all as it was
@@ -101,6 +106,23 @@ module _ (l : List ℕ) where
   unfolding Search.refusalOf
   search-refuses kind s r list =
       record { first = refusal-is l kind s r list; untouched = search-untouched l kind s r list }
+
+  pub nearest-refuses :
+      (kind : ℕ) (signature : List ℕ) (k : ℕ) (list : List Pair)
+      → Refuses
+      ((not (rightSize (length l)), SIZE)
+      ∷ (not (wellFormed (recordsIn l) (recordOf l)), TABLE)
+      ∷ (not ((knownKind kind && eqb (length signature) signatureLength) && (leb 1 k && leb k mostNearest)), ARGUMENT)
+      ∷ (otherKind (recordsIn l) (recordOf l) kind, KIND)
+      ∷ (ltb (length list) k, SHORT)
+      ∷ [])
+      (nearestOf l kind signature k list .refusal)
+      ((nearestOf l kind signature k list .count ≡ 0)
+      × (nearestOf l kind signature k list .found ≡ 0)
+      × (nearestOf l kind signature k list .list ≡ list))
+  unfolding Nearest.refusalOf
+  nearest-refuses kind s k list =
+      record { first = Nearests.refusal-is l kind s k list; untouched = nearest-untouched l kind s k list }
 
   -- check writes nothing and reports no count
   pub check-refuses :
@@ -175,6 +197,14 @@ module _ {n : ℕ} (some : 1 ≤ n) (small : n ≤ mostRecords) (calls : List Ca
       ≤ searchOf (reached .table) kind signature r′ list′ .count
   history-narrower kind s list list′ h both = count-narrower (reached .table) kind s list list′ h both
 
+  -- every accepted nearest call lists exactly the first k of all stored cards, by distance and then by card, and
+  -- compares none twice
+  pub history-nearest :
+      (kind : ℕ) (signature : List ℕ) (k : ℕ) (list : List Pair)
+      → nearestOf (reached .table) kind signature k list .refusal ≡ done
+      → FindsNearest reached kind signature k list (nearestOf (reached .table) kind signature k list)
+  history-nearest kind s k list = nearest-finds some small history-holds kind s k list
+
   -- check answers 0
   pub history-check : checkOf (reached .table) ≡ done
   history-check = check-done some small history-holds
@@ -226,6 +256,13 @@ pub search-fixed :
     → p ≡ searchOf l kind signature radius list
     → o ≡ p
 search-fixed l kind s r list o p = two-outcomes
+
+pub nearest-fixed :
+    (l : List ℕ) (kind : ℕ) (signature : List ℕ) (k : ℕ) (list : List Pair) (o p : Nearest.Outcome)
+    → o ≡ nearestOf l kind signature k list
+    → p ≡ nearestOf l kind signature k list
+    → o ≡ p
+nearest-fixed l kind s k list o p = two-outcomes
 
 pub check-fixed : (l : List ℕ) (o p : ℕ) → o ≡ checkOf l → p ≡ checkOf l → o ≡ p
 check-fixed l o p = two-outcomes

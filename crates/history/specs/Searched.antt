@@ -47,7 +47,7 @@ module _ {n : ℕ} (some : 1 ≤ n) (small : n ≤ mostRecords) {st : State} (h 
   formed = formed-view small shape (h .sound .well-formed)
 
   -- a used record's card is stored, with what the record brought
-  used-stored : (a : ℕ) → Used (R a) → List·Memᴰ (brought (R a)) (st .stored)
+  pub used-stored : (a : ℕ) → Used (R a) → List·Memᴰ (brought (R a)) (st .stored)
   used-stored a u = h .stored (brought (R a)) .0 (a, record { within = used-within shape a u; used = u; same = refl })
 
   -- ---- check

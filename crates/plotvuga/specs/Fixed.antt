@@ -8,6 +8,8 @@ use Rattle.insert.specs.Insert.{insertOf}
 use Rattle.refusals.specs.Outcome.{Outcome}
 use Rattle.delete.specs.Delete.{deleteOf}
 use Rattle.search.specs.Search.{searchOf, Outcome as Listing}
+use Rattle.pairs.specs.declared.Pair.{Pair}
+use Rattle.nearest.specs.Nearest.{nearestOf, Outcome as Nearest}
 use Rattle.soundness.specs.Soundness.{checkOf}
 use Rattle.inventory.specs.Cards.{allCardsOf, Outcome as Cards}
 use Rattle.inventory.specs.Card.{oneCardOf, Outcome as Card}
@@ -70,6 +72,23 @@ module _ (l : List ℕ) {r r′ : ℕ} where
     part (λ (o : Listing). o .count) e g,
     part (λ (o : Listing). o .found) e g,
     part (λ (o : Listing). o .list) e g,
+  )
+
+  pub nearest-fixed :
+      (kind : ℕ) (signature : List ℕ) (k : ℕ) (list : List Pair)
+      {count count′ found found′ : ℕ} {after after′ : List Pair}
+      → _≡_ {A = Nearest}
+      (record { refusal = r; count = count; found = found; list = after })
+      (nearestOf l kind signature k list)
+      → _≡_ {A = Nearest}
+      (record { refusal = r′; count = count′; found = found′; list = after′ })
+      (nearestOf l kind signature k list)
+      → (r ≡ r′) × (count ≡ count′) × (found ≡ found′) × (after ≡ after′)
+  nearest-fixed kind signature k list e g = (
+    part (λ (o : Nearest). o .refusal) e g,
+    part (λ (o : Nearest). o .count) e g,
+    part (λ (o : Nearest). o .found) e g,
+    part (λ (o : Nearest). o .list) e g,
   )
 
   pub check-fixed : r ≡ checkOf l → r′ ≡ checkOf l → r ≡ r′

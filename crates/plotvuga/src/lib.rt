@@ -8,11 +8,14 @@ ghost use Rattle.refusals.specs.Outcome.{Outcome};
 ghost use Rattle.delete.specs.Delete.{deleteOf};
 ghost use Rattle.search.specs.Search.{searchOf};
 ghost use Rattle.search.specs.Search.{Outcome as Listing};
+ghost use Rattle.nearest.specs.Nearest.{nearestOf};
+ghost use Rattle.nearest.specs.Nearest.{Outcome as Nearest};
 ghost use Rattle.soundness.specs.Soundness.{checkOf};
 ghost use Rattle.inventory.specs.Cards.{allCardsOf};
 ghost use Rattle.inventory.specs.Cards.{Outcome as Cards};
 ghost use Rattle.inventory.specs.Card.{oneCardOf};
 ghost use Rattle.inventory.specs.Card.{Outcome as Card};
+use pairs::Pair;
 
 #[no_mangle]
 pub extern "C" fn plotvuga_clear(table: &mut [u8]) -> u32
@@ -72,6 +75,29 @@ pub extern "C" fn plotvuga_search(
     *count = r.count;
     *found = r.found;
     r.refusal as u32
+}
+
+// A list of structs is lent, so what is here is proved by hand: the core is told how long the list is, and answers by
+// value what is to be laid over it.
+#[no_mangle]
+pub extern "C" fn plotvuga_nearest(
+    table: &[u8],
+    kind: u8,
+    signature: &[u8],
+    k: u32,
+    list: &mut [Pair],
+    count: &mut u32,
+    found: &mut u32,
+) -> u32
+    ensures { λ r.
+        ⌜ _≡_ {A = Nearest}
+        (record { refusal = r; count = now (count .exit); found = now (found .exit); list = now (list .exit) })
+        (nearestOf (now (table .entry)) kind (now (signature .entry)) k (now (list .entry))) ⌝ }
+{
+    let room = list.len();
+    let answer = nearest::nearest(table, kind, signature, k, room, count, found);
+    pairs::fill(list, answer);
+    answer.refusal
 }
 
 #[no_mangle]
