@@ -17,6 +17,7 @@ enum { STACK = 4 * 1024 * 1024, PAINT = 0xa7 };
 static uint8_t table[PLOTVUGA_RECORDS * PLOTVUGA_RECORD];
 static uint8_t start[sizeof table];
 static uint32_t list[PLOTVUGA_RECORDS];
+static struct plotvuga_pair pairs[PLOTVUGA_NEAREST];
 static uint8_t signature[PLOTVUGA_SIGNATURE], row[PLOTVUGA_SIGNATURE], kind;
 static uint32_t card, refusal, count, found;
 
@@ -47,6 +48,13 @@ static void *search(void *unused)
 {
     refusal = plotvuga_search(table, sizeof table, PLOTVUGA_READINGS, signature, sizeof signature, UINT32_MAX, list,
                               PLOTVUGA_RECORDS, &count, &found);
+    return unused;
+}
+
+static void *nearest(void *unused)
+{
+    refusal = plotvuga_nearest(table, sizeof table, PLOTVUGA_READINGS, signature, sizeof signature, PLOTVUGA_NEAREST,
+                               pairs, PLOTVUGA_NEAREST, &count, &found);
     return unused;
 }
 
@@ -132,6 +140,8 @@ static void measure_all(const char *name, int crowded)
     measure(line, delete, PLOTVUGA_DONE);
     snprintf(line, sizeof line, "search, %s", name);
     measure(line, search, PLOTVUGA_DONE);
+    snprintf(line, sizeof line, "nearest, %s", name);
+    measure(line, nearest, PLOTVUGA_DONE);
     snprintf(line, sizeof line, "check, %s", name);
     measure(line, check, PLOTVUGA_DONE);
     snprintf(line, sizeof line, "cards, %s", name);

@@ -12,7 +12,7 @@ export CARGO_NET_OFFLINE=true CARGO_PROFILE_RELEASE_LTO=fat CARGO_PROFILE_RELEAS
 # One object in which only the library's functions can be seen, so that it can stand beside another Rust program's own
 # runtime.
 ld -r --gc-sections -e plotvuga_check -u plotvuga_clear -u plotvuga_insert -u plotvuga_delete -u plotvuga_search \
-    -u plotvuga_cards -u plotvuga_card -o "$out/plotvuga.o" "$out/build/release/libstandin.a"
+    -u plotvuga_nearest -u plotvuga_cards -u plotvuga_card -o "$out/plotvuga.o" "$out/build/release/libstandin.a"
 objcopy --wildcard --keep-global-symbol='plotvuga_*' -R .llvmbc -R .llvmcmd -R .eh_frame -R .rela.eh_frame \
     "$out/plotvuga.o"
 rm -f "$out/libplotvuga.a"

@@ -1,32 +1,44 @@
 /*
- * The paper's listing through the C functions, then what is stored, then each refusal once. A line for each call, as
- * the bench program prints them: the call's number, its refusal, its distance count, the cards found, and the cards.
- * After the listing a refused call's line ends with what the refusal says.
+ * The paper's listing through the C functions, then the nearest few, then what is stored, then each refusal once. A
+ * line for each call, as the bench program prints them: the call's number, its refusal, its distance count, the cards
+ * found, and the cards, the nearest few with their distances. After the listing a refused call's line ends with what
+ * the refusal says.
  */
 #include <stdio.h>
 #include <string.h>
 
 #include "plotvuga.h"
 
-#if PLOTVUGA_VERSION < 10100
-#error "plotvuga_cards and plotvuga_card came with 1.1.0"
+#if PLOTVUGA_VERSION < 10200
+#error "plotvuga_cards and plotvuga_card came with 1.1.0, plotvuga_nearest with 1.2.0"
 #endif
 
 enum { PLACES = 512 };
 
 static uint8_t table[PLACES * PLOTVUGA_RECORD];
 static uint32_t list[PLACES];
+static struct plotvuga_pair pairs[PLOTVUGA_NEAREST];
 static unsigned calls;
 static int in_words; /* whether a refusal is told in words, too */
 
-static void line(uint32_t refusal, uint32_t count, uint32_t found)
+static void begin(uint32_t refusal, uint32_t count, uint32_t found)
 {
     printf("%u %u %u %u", ++calls, (unsigned)refusal, (unsigned)count, (unsigned)found);
-    for (uint32_t i = 0; i < found; i++)
-        printf(" %u", (unsigned)list[i]);
+}
+
+static void end(uint32_t refusal)
+{
     if (in_words && refusal != PLOTVUGA_DONE)
         printf(" %s", plotvuga_refusal_text(refusal));
     putchar('\n');
+}
+
+static void line(uint32_t refusal, uint32_t count, uint32_t found)
+{
+    begin(refusal, count, found);
+    for (uint32_t i = 0; i < found; i++)
+        printf(" %u", (unsigned)list[i]);
+    end(refusal);
 }
 
 /* Kind 1 with reading 0 as given, the others 0. */
@@ -61,6 +73,17 @@ static void search(unsigned value, uint32_t radius, size_t places)
     line(refusal, count, found);
 }
 
+static void nearest(unsigned value, uint32_t k, size_t places)
+{
+    uint32_t count, found;
+    uint32_t refusal = plotvuga_nearest(table, sizeof table, PLOTVUGA_READINGS, reading(value), PLOTVUGA_SIGNATURE, k,
+                                        pairs, places, &count, &found);
+    begin(refusal, count, found);
+    for (uint32_t i = 0; i < found; i++)
+        printf(" %u (%u)", (unsigned)pairs[i].card, (unsigned)pairs[i].distance);
+    end(refusal);
+}
+
 static void listing(void)
 {
     static const unsigned values[] = {50, 80, 20, 52, 40, 78};
@@ -71,6 +94,14 @@ static void listing(void)
     search(48, 5, PLACES);
     delete(99);
     line(plotvuga_check(table, sizeof table), 0, 0);
+}
+
+/* One, three, and all of them: fewer than 64 are stored. */
+static void nearest_few(void)
+{
+    nearest(48, 1, PLOTVUGA_NEAREST);
+    nearest(48, 3, 3);
+    nearest(48, PLOTVUGA_NEAREST, PLOTVUGA_NEAREST);
 }
 
 static void tell(uint32_t card, size_t room)
@@ -117,9 +148,10 @@ static void small_tables(void)
 /* Refusals 9 and 10, of calls that read. */
 static void late_refusals(void)
 {
-    /* 9 SHORT: five cards are stored; a signature has 32 bytes. */
+    /* 9 SHORT: five cards are stored; six are asked for; a signature has 32 bytes. */
     search(48, 5, 4);
     search(48, 5, 5);
+    nearest(48, 6, 5);
     uint32_t found = 0xffffffff;
     uint32_t refusal = plotvuga_cards(table, sizeof table, list, 4, &found);
     line(refusal, 0, found);
@@ -145,8 +177,10 @@ static void refusals(void)
     line(refusal, count, 0);
     table[15] = PLOTVUGA_READINGS;
 
-    /* 3 ARGUMENT: arity 9; a signature of 31 bytes. */
+    /* 3 ARGUMENT: arity 9; k 0 and 65; a signature of 31 bytes. */
     insert(17, 1, 9);
+    nearest(48, 0, PLOTVUGA_NEAREST);
+    nearest(48, PLOTVUGA_NEAREST + 1, PLOTVUGA_NEAREST);
     count = 0xffffffff;
     refusal = plotvuga_search(table, sizeof table, PLOTVUGA_READINGS, reading(1), 31, 5, list, PLACES, &count, &found);
     line(refusal, count, found);
@@ -176,6 +210,7 @@ int main(void)
         return 1;
     listing();
     in_words = 1;
+    nearest_few();
     stored();
     refusals();
     return 0;

@@ -1,5 +1,6 @@
 //! The words around the table.
 
+use crate::few::Worst;
 use crate::rows::Row;
 use model::signature::Flavour;
 
@@ -16,7 +17,7 @@ in turn, so a slower machine moves the times and hardly the ratios. Below 1 is f
 
 - **us**: the library's time for one call, in microseconds, the median of many.
 - **of scan**: over the time of a plain scan that works out every used record's distance, lists the cards within the
-  radius and judges nothing. Calls other than search are held against the scan of 1 in 100.
+  radius and judges nothing. Calls other than search and nearest are held against the scan of 1 in 100.
 - **of validated scan**: over the library's own judging of the table followed by that scan. Every call but clear judges
   the whole table first, so this is what a scan over lent bytes would cost if it trusted them no more than the index.
 - **of twin**: over the same algorithm in plain Rust, in place over the same bytes, with the same judging, not proved
@@ -34,6 +35,20 @@ Machine: {}; load {}.
 {HEAD}",
         processor(),
         load()
+    );
+}
+
+pub fn nearest_few() {
+    println!(
+        "
+## The nearest few
+
+Here the scan works out every used record's distance and keeps the first k in a rising row. **Compared** is the share
+of the stored cards whose distance the library worked out, in hundredths: what the tree could not rule out. The tables
+are those above.
+
+| records | signatures | kind | call | us | of scan | of validated scan | of twin | compared |
+|---|---|---|---|---|---|---|---|---|"
     );
 }
 
@@ -76,6 +91,23 @@ holds every record against each one above it.
     );
 }
 
+pub fn worst_for_nearest() {
+    println!(
+        "
+For the nearest few the dearest table known is a crowd: 1,024 equal cards whose covering radii were set by hand, so that
+320 records come to wait, the later before or behind the earlier, then 338 others one after the other before all of
+these, and each card that is compared comes before all that are held. Its time for k 64, and the chain's, over that of
+ordinary tables of 1,024 records, the works of a row in turn:
+
+| shape | kind | us | of clustered | of uniform |
+|---|---|---|---|---|"
+    );
+}
+
+pub fn worst(shape: &str, kind: u8, Worst { time, ratios: [clustered, uniform] }: &Worst) {
+    println!("| {shape} | {kind} | {time:.2} | {clustered:.2} | {uniform:.2} |");
+}
+
 /// The aims at 1,024 records, each with the worst row for it.
 pub fn aims(rows: &[Row]) {
     println!("\n## Aims at 1,024 records\n");
@@ -84,6 +116,11 @@ pub fn aims(rows: &[Row]) {
     let near = |row: &&Row| row.setting.flavour == Flavour::Clustered && row.call == "search, 1 in 100 found";
     aim("search, clustered, 1 in 100: at most 1.6 of the plain scan", 1.6, large().filter(near), |row| row.scan);
     aim("the same: below the validated scan", 1.0, large().filter(near), |row| row.validated);
+    let few =
+        |row: &&Row| row.setting.flavour == Flavour::Clustered && ["nearest, k 1", "nearest, k 8"].contains(&row.call);
+    aim("nearest, clustered, k up to 8: below the validated scan", 1.0, large().filter(few), |row| row.validated);
+    let nearest = |row: &&Row| row.setting.flavour == Flavour::Clustered && row.call.starts_with("nearest");
+    aim("nearest, clustered: at most 1.25 of the twin", 1.25, large().filter(nearest), |row| row.twin);
     aim("insert: at most 2.5 of the plain scan", 2.5, large().filter(|row| row.call == "insert"), |row| row.scan);
     aim("every row: at most 1.25 of the twin", 1.25, large(), |row| row.twin);
     println!("\nLoad at the end: {}.", load());

@@ -1,5 +1,6 @@
 //! The rows: each call on one table again and again, or on several in turn, timed in turn with both scans and the twin.
 
+use crate::few;
 use crate::scan::{judge, plain, validated};
 use crate::tables::{Bench, Setting, Share, ITEMS};
 use model::index::Search;
@@ -11,7 +12,7 @@ use timing::{changing, medians, reading, rounds_within, Work};
 use twin::record::{Signature, SIGNATURE};
 
 /// The time that one row may take in all, more or less.
-const ROW: Duration = Duration::from_millis(900);
+pub const ROW: Duration = Duration::from_millis(900);
 
 pub struct Row {
     pub setting: Setting,
@@ -30,6 +31,15 @@ impl fmt::Display for Row {
         let Row { call, time, scan, validated, twin, .. } = self;
         let flavour = format!("{flavour:?}").to_lowercase();
         write!(f, "| {records} | {flavour} | {kind} | {call} | {time:.2} | {scan:.2} | {validated:.2} | {twin:.2} |")
+    }
+}
+
+impl Row {
+    /// Times the library, both scans and the twin in turn.
+    pub fn timed(setting: Setting, call: &'static str, mut works: [Work; 4]) -> Row {
+        let rounds = rounds_within(ROW, &mut works);
+        let [time, scan, validated, twin] = medians(works, rounds);
+        Row { setting, call, time, scan: time / scan, validated: time / validated, twin: time / twin }
     }
 }
 
@@ -66,11 +76,7 @@ impl Scans<'_> {
         let many = self.tables.len();
         let plain = reading(many, |table, item| plain(self.table(table), self.search(table, item, &mut one)));
         let validated = reading(many, |table, item| validated(self.table(table), self.search(table, item, &mut other)));
-        let mut works = [library, plain, validated, twin];
-        let rounds = rounds_within(ROW, &mut works);
-        let [time, scan, validated, twin] = medians(works, rounds);
-        let setting = self.tables[0].setting;
-        Row { setting, call, time, scan: time / scan, validated: time / validated, twin: time / twin }
+        Row::timed(self.tables[0].setting, call, [library, plain, validated, twin])
     }
 }
 
@@ -95,6 +101,7 @@ pub fn measure_in_turn(tables: &[Bench], print: &mut dyn FnMut(Row)) {
     print(judging(tables));
     print(insert(tables));
     print(search(tables, "search, 1 in 100 found", Share::OneIn(100)));
+    print(few::nearest(tables, 8, "nearest, k 8").row);
     print(check(tables));
 }
 
@@ -103,6 +110,7 @@ pub fn measure_chain(chain: &Bench, print: &mut dyn FnMut(Row)) {
     let tables = std::slice::from_ref(chain);
     print(search(tables, "chain: search, all found", Share::All));
     print(delete(tables, "chain: delete, the root, arity 1", |bench| vec![bench.root()]));
+    print(few::nearest(tables, few::MOST, "chain: nearest, k 64").row);
     print(Row { call: "chain: check", ..check(tables) });
 }
 

@@ -2,7 +2,16 @@
 //! through the wrapper's typed calls.
 
 use model::index::Search;
-use plotvuga::{library, Kind, Refusal, Signature};
+use plotvuga::{library, Kind, Pair, Refusal, Signature};
+
+/// What a nearest call is lent besides its table: as the model has it, but for the list of the library's own pairs.
+#[derive(Debug)]
+pub struct Nearest<'a> {
+    pub kind: u8,
+    pub signature: &'a [u8],
+    pub k: u32,
+    pub list: &'a mut [Pair],
+}
 
 /// The functions: each returns the refusal number and sets its counts.
 pub trait Doors {
@@ -10,6 +19,7 @@ pub trait Doors {
     fn insert(&mut self, table: &mut [u8], card: u32, kind: u8, arity: u8, signature: &[u8], count: &mut u32) -> u32;
     fn delete(&mut self, table: &mut [u8], card: u32, arity: u8, count: &mut u32) -> u32;
     fn search(&mut self, table: &[u8], lent: Search, count: &mut u32, found: &mut u32) -> u32;
+    fn nearest(&mut self, table: &[u8], lent: Nearest, count: &mut u32, found: &mut u32) -> u32;
     fn check(&mut self, table: &[u8]) -> u32;
     fn cards(&mut self, table: &[u8], list: &mut [u32], found: &mut u32) -> u32;
     fn card(&mut self, table: &[u8], card: u32, row: &mut [u8], kind: &mut u8) -> u32;
@@ -34,6 +44,10 @@ impl Doors for Linked {
 
     fn search(&mut self, table: &[u8], lent: Search, count: &mut u32, found: &mut u32) -> u32 {
         library::search(table, lent.kind, lent.signature, lent.radius, lent.list, count, found)
+    }
+
+    fn nearest(&mut self, table: &[u8], lent: Nearest, count: &mut u32, found: &mut u32) -> u32 {
+        library::nearest(table, lent.kind, lent.signature, lent.k, lent.list, count, found)
     }
 
     fn check(&mut self, table: &[u8]) -> u32 {
@@ -90,6 +104,16 @@ impl Doors for Typed {
         let listed = plotvuga::search(table, &signature, lent.radius, lent.list);
         *count = listed.map_or(0, |listed| listed.distances);
         *found = listed.map_or(0, |listed| listed.cards.len() as u32);
+        number(listed)
+    }
+
+    fn nearest(&mut self, table: &[u8], lent: Nearest, count: &mut u32, found: &mut u32) -> u32 {
+        let Some(signature) = typed(lent.kind, lent.signature) else {
+            return Linked.nearest(table, lent, count, found);
+        };
+        let listed = plotvuga::nearest(table, &signature, lent.k, lent.list);
+        *count = listed.map_or(0, |listed| listed.distances);
+        *found = listed.map_or(0, |listed| listed.pairs.len() as u32);
         number(listed)
     }
 

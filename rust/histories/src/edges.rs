@@ -1,6 +1,7 @@
 //! The paper's listing, its edges to try and its errors that look right, by name, each with the answers that the paper
 //! gives or that were worked out by hand. Every call is held against the model as well.
 
+mod nearest;
 mod stored;
 
 use crate::starts::{inserted, reading, with_timestamp};
@@ -16,8 +17,8 @@ pub struct Edge {
     steps: Vec<Step>,
 }
 
-/// A call with the answer that it must have, and what it must write from the start of its list and of its row. What
-/// stands after that must stay.
+/// A call with the answer that it must have, and what it must write from the start of its list, of its pairs and of its
+/// row. What stands after that must stay.
 pub struct Step {
     pub command: Command,
     pub answer: Answer,
@@ -41,7 +42,7 @@ impl Edge {
 
     fn step(mut self, command: Command, refusal: u32, count: u32, cards: &[u32]) -> Edge {
         let answer = Answer { refusal, count, found: cards.len() as u32, kind: 0 };
-        let written = Lent { list: cards.to_vec(), row: Vec::new() };
+        let written = Lent { list: cards.to_vec(), ..Lent::default() };
         self.steps.push(Step { command, answer, written });
         self
     }
@@ -91,6 +92,7 @@ pub fn all() -> Vec<Edge> {
     edges.extend(order_of_refusals());
     edges.extend(walks());
     edges.extend(errors_that_look_right());
+    edges.extend(nearest::all());
     edges.extend(stored::all());
     edges
 }

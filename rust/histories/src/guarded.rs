@@ -1,8 +1,9 @@
 //! The doors as an index, with everything lent at any address between guards: a write beside what was lent, a write to
 //! what was lent to be read, or a count or a kind that was not set is seen.
 
-use crate::doors::Doors;
-use model::index::{Answer, Index, Search};
+use crate::doors::{self, Doors};
+use model::index::{Answer, Index, Nearest, Search};
+use plotvuga::Pair;
 
 /// Guards on either side, in entries.
 const GUARD: usize = 48;
@@ -133,6 +134,31 @@ impl<D: Doors> Index for Guarded<D> {
             (query.guards_hold(), SIGNATURE_GUARDS),
             (query.is_still(lent.signature), SIGNATURE_READ),
             (cards.guards_hold(), LIST_GUARDS),
+            (counts.guards_hold() && founds.guards_hold(), COUNT_GUARDS),
+        ];
+        let (count, found) = (counts.content()[0], founds.content()[0]);
+        self.told(Answer { count, found, ..Answer::refused(refusal) }, &promises)
+    }
+
+    fn nearest(&mut self, table: &[u8], lent: Nearest) -> Answer {
+        let bytes = Lent::new(table, self.shift(), 0xa5);
+        let query = Lent::new(lent.signature, self.shift(), 0x5a);
+        let own: Vec<Pair> = lent.list.iter().map(|pair| Pair { card: pair.card, distance: pair.distance }).collect();
+        let mut pairs = Lent::new(&own, self.shift(), Pair { card: 0xfeed, distance: 0xbeef });
+        let (mut counts, mut founds) = (Lent::new(&[NOT_SET], 0, 0xc0de), Lent::new(&[NOT_SET], 0, 0xc0de));
+        let guarded =
+            doors::Nearest { kind: lent.kind, signature: query.content(), k: lent.k, list: pairs.content_mut() };
+        let (count, found) = (&mut counts.content_mut()[0], &mut founds.content_mut()[0]);
+        let refusal = self.doors.nearest(bytes.content(), guarded, count, found);
+        for (entry, pair) in lent.list.iter_mut().zip(pairs.content()) {
+            *entry = model::index::Pair { card: pair.card, distance: pair.distance };
+        }
+        let promises = [
+            (bytes.guards_hold(), TABLE_GUARDS),
+            (bytes.is_still(table), TABLE_READ),
+            (query.guards_hold(), SIGNATURE_GUARDS),
+            (query.is_still(lent.signature), SIGNATURE_READ),
+            (pairs.guards_hold(), LIST_GUARDS),
             (counts.guards_hold() && founds.guards_hold(), COUNT_GUARDS),
         ];
         let (count, found) = (counts.content()[0], founds.content()[0]);

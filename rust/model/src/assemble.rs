@@ -74,7 +74,7 @@ pub fn table(random: &mut Random, records: usize, used: usize, shape: Shape, clo
     let timestamps = rising(random, used, clock);
     let cards = some_cards(random, used);
     let mut source = Source::any_flavour(random, kind);
-    let any_radius = random.percent(70);
+    let widest = random.pick(&[0, 0, 12, 150, 400_000, u32::MAX, u32::MAX, u32::MAX]);
     // The slots, oldest first, of records that can take another child.
     let mut open: Vec<u16> = Vec::new();
     for (age, slot) in slots.into_iter().take(used).enumerate() {
@@ -82,7 +82,7 @@ pub fn table(random: &mut Random, records: usize, used: usize, shape: Shape, clo
         let record = &mut row[usize::from(slot)];
         record.card = cards[age];
         record.timestamp = timestamps[age];
-        record.radius = if any_radius { random.number() } else { 0 };
+        record.radius = random.from_to(0, u64::from(widest)) as u32;
         record.parent = parent;
         record.kind = kind;
         record.signature = source.next(random);

@@ -2,7 +2,7 @@
 //! two that tell what is stored go beyond the paper and only read its records.
 
 use crate::distance::{Signature, FAULT_BITS, READINGS, SIGNATURE};
-use crate::index::{Answer, Index, Search};
+use crate::index::{Answer, Index, Nearest, Search};
 use crate::judge::{judge, size_is_right, Verdict};
 use crate::record::{parse_table, Record};
 use crate::refusal::{ABSENT, ARGUMENT, CLOCK, DONE, FULL, KIND, LOOSE, SHORT, SIZE, TABLE, TWICE};
@@ -46,6 +46,10 @@ fn kind_is_right(kind: u8) -> bool {
     [READINGS, FAULT_BITS].contains(&kind)
 }
 
+fn k_is_right(k: u32) -> bool {
+    (1..=64).contains(&k)
+}
+
 fn whole(signature: &[u8]) -> Option<Signature> {
     signature.try_into().ok()
 }
@@ -85,6 +89,18 @@ fn search(table: &[u8], lent: Search) -> Result<Answer, u32> {
     let walk = tree.search(&query, lent.radius);
     lent.list[..walk.listed.len()].copy_from_slice(&walk.listed);
     Ok(Answer { count: tree.compared(&walk), found: walk.listed.len() as u32, ..Answer::refused(DONE) })
+}
+
+fn nearest(table: &[u8], lent: Nearest) -> Result<Answer, u32> {
+    let tree = admit(table)?;
+    demand(kind_is_right(lent.kind) && k_is_right(lent.k), ARGUMENT)?;
+    let query = whole(lent.signature).ok_or(ARGUMENT)?;
+    demand(tree.root.is_none() || tree.kind == lent.kind, KIND)?;
+    let k = lent.k as usize;
+    demand(lent.list.len() >= k, SHORT)?;
+    let few = tree.nearest(&query, k);
+    lent.list[..few.held.len()].copy_from_slice(&few.held);
+    Ok(Answer { count: few.count, found: few.held.len() as u32, ..Answer::refused(DONE) })
 }
 
 fn check(table: &[u8]) -> Result<Answer, u32> {
@@ -130,6 +146,10 @@ impl Index for Model {
 
     fn search(&mut self, table: &[u8], lent: Search) -> Answer {
         search(table, lent).unwrap_or_else(Answer::refused)
+    }
+
+    fn nearest(&mut self, table: &[u8], lent: Nearest) -> Answer {
+        nearest(table, lent).unwrap_or_else(Answer::refused)
     }
 
     fn check(&mut self, table: &[u8]) -> Answer {

@@ -1,12 +1,14 @@
 //! Runs a history on two indexes and compares, after each call, refusal, counts, every byte of the table, every entry
-//! of the list and every byte of the row. A history that fails is made as short as it can be and printed as commands.
+//! of either list and every byte of the row. A history that fails is made as short as it can be and printed as
+//! commands.
 
-use crate::distance::SIGNATURE;
-use crate::history::{Command, History, Lent};
+mod told;
+
+use crate::history::History;
 use crate::index::{Answer, Index};
-use crate::refusal::{name, ABSENT, DONE, LOOSE, OF_CALLS, SHORT};
+use crate::refusal::{name, OF_CALLS};
 use crate::scan::Stored;
-use std::collections::{BTreeMap, BTreeSet};
+use std::collections::BTreeMap;
 use std::fmt;
 
 /// What was compared when nothing differed.
@@ -17,6 +19,8 @@ pub struct Tally {
     pub answers: BTreeMap<(&'static str, u32), usize>,
     /// Searches whose list is exactly what the plain scan finds.
     pub scanned: usize,
+    /// Nearest calls whose list is exactly the first of the plain scan.
+    pub ranked: usize,
     /// Questions what is stored whose answer is exactly what the calls before them stored.
     pub told: usize,
 }
@@ -25,6 +29,7 @@ impl Tally {
     pub fn add(&mut self, other: &Tally) {
         self.calls += other.calls;
         self.scanned += other.scanned;
+        self.ranked += other.ranked;
         self.told += other.told;
         other.answers.iter().for_each(|(answer, times)| *self.answers.entry(*answer).or_default() += times);
     }
@@ -87,11 +92,12 @@ pub fn run(subject: &mut dyn Index, model: &mut dyn Index, history: &History) ->
         }
         same("table byte", &tables[0], &tables[1]).map_err(differs)?;
         same("list entry", &lent[0].list, &lent[1].list).map_err(differs)?;
+        same("pair", &lent[0].pairs, &lent[1].pairs).map_err(differs)?;
         same("row byte", &lent[0].row, &lent[1].row).map_err(differs)?;
         if let Some(answer) = answer {
             tally.answered(command.name(), answer.refusal);
             if let Some(stored) = &mut stored {
-                scan(&mut tally, stored, command, answer, &lent[0]).map_err(differs)?;
+                told::scan(&mut tally, stored, command, answer, &lent[0]).map_err(differs)?;
             }
         }
     }
@@ -103,82 +109,6 @@ pub fn same<T: PartialEq + fmt::Display>(what: &str, own: &[T], right: &[T]) -> 
     match (0..own.len()).find(|place| own[*place] != right[*place]) {
         None => Ok(()),
         Some(place) => Err(format!("{what} {place} is {} and not {}", own[place], right[place])),
-    }
-}
-
-/// Follows the stored cards and holds against them what a call tells of them.
-fn scan(tally: &mut Tally, stored: &mut Stored, command: &Command, answer: Answer, lent: &Lent) -> Result<(), String> {
-    if answer.refusal == LOOSE {
-        return Err("a table that calls alone made is not sound".to_string());
-    }
-    match command {
-        Command::Cards { .. } => tally.told += all_told(stored, answer, lent)?,
-        Command::Card { card, .. } => tally.told += one_told(stored, *card, answer, lent)?,
-        _ if answer.refusal != DONE => {}
-        Command::Clear => stored.clear(),
-        Command::Insert { card, kind, signature, .. } => {
-            if stored.holds(*card) {
-                return Err(format!("card {card} accepted twice"));
-            }
-            stored.insert(*card, *kind, signature.as_slice().try_into().map_err(|_| "a short signature accepted")?);
-        }
-        Command::Delete { card, .. } => {
-            if !stored.holds(*card) {
-                return Err(format!("card {card} deleted but not stored"));
-            }
-            stored.delete(*card);
-        }
-        Command::Search { signature, radius, .. } => {
-            near(stored, signature, *radius, answer, &lent.list)?;
-            tally.scanned += 1;
-        }
-        Command::Check | Command::Turn { .. } => {}
-    }
-    Ok(())
-}
-
-/// An accepted search against the plain scan.
-fn near(stored: &Stored, signature: &[u8], radius: u32, answer: Answer, list: &[u32]) -> Result<(), String> {
-    let query = signature.try_into().map_err(|_| "a short signature accepted")?;
-    let within = stored.within(query, radius);
-    let found = &list[..answer.found as usize];
-    let listed: BTreeSet<u32> = found.iter().copied().collect();
-    if listed.len() != found.len() || listed != within {
-        return Err(format!("the list {found:?} is not what a plain scan finds, {within:?}"));
-    }
-    if answer.count as usize > stored.len() {
-        return Err(format!("{} distances for {} stored cards", answer.count, stored.len()));
-    }
-    Ok(())
-}
-
-/// All cards told, against those that the calls stored: each in its slot's turn, refused only where the list is short.
-/// Returns the number of answers held against them.
-fn all_told(stored: &Stored, answer: Answer, lent: &Lent) -> Result<usize, String> {
-    let short = lent.list.len() < stored.len();
-    match answer.refusal {
-        SHORT if short => Ok(1),
-        DONE if !short && lent.list[..answer.found as usize] == stored.in_slot_order() => Ok(1),
-        DONE | SHORT => {
-            Err(format!("{} is not what the calls stored, {:?}", words(Some(answer)), stored.in_slot_order()))
-        }
-        _ => Ok(0),
-    }
-}
-
-/// What a card was stored with, against what its accepted insert brought.
-fn one_told(stored: &Stored, card: u32, answer: Answer, lent: &Lent) -> Result<usize, String> {
-    let right = match (stored.card(card), lent.row.first_chunk::<SIGNATURE>()) {
-        (None, _) => answer.refusal == ABSENT,
-        (Some(_), None) => answer.refusal == SHORT,
-        (Some(brought), Some(row)) => answer.refusal == DONE && brought == (answer.kind, *row),
-    };
-    match answer.refusal {
-        DONE | ABSENT | SHORT if !right => {
-            Err(format!("{} is not what card {card} was stored with", words(Some(answer))))
-        }
-        DONE | ABSENT | SHORT => Ok(1),
-        _ => Ok(0),
     }
 }
 

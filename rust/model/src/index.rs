@@ -1,5 +1,7 @@
 //! What an index over a lent table offers: its calls, each answering with its refusal and its counts.
 
+use std::fmt;
+
 /// What a search is lent besides its table. Kind and signature stand as the caller gave them, right or wrong.
 #[derive(Debug)]
 pub struct Search<'a> {
@@ -8,6 +10,31 @@ pub struct Search<'a> {
     pub radius: u32,
     /// Where the cards found go, from its start.
     pub list: &'a mut [u32],
+}
+
+/// A card and its distance to the query, as a nearest call lists them.
+#[derive(Clone, Copy, Debug, Default, PartialEq, Eq)]
+#[repr(C)]
+pub struct Pair {
+    pub card: u32,
+    pub distance: u32,
+}
+
+impl fmt::Display for Pair {
+    fn fmt(&self, f: &mut fmt::Formatter<'_>) -> fmt::Result {
+        write!(f, "card {} at {}", self.card, self.distance)
+    }
+}
+
+/// What a nearest call is lent besides its table. Kind, signature and k stand as the caller gave them, right or wrong.
+#[derive(Debug)]
+pub struct Nearest<'a> {
+    pub kind: u8,
+    pub signature: &'a [u8],
+    /// How many cards are wanted.
+    pub k: u32,
+    /// Where the cards go with their distances, nearest first, from its start.
+    pub list: &'a mut [Pair],
 }
 
 /// What a call returns. Counts and kind are 0 where the call reports none, and in every refusal.
@@ -34,6 +61,8 @@ pub trait Index {
     fn insert(&mut self, table: &mut [u8], card: u32, kind: u8, signature: &[u8], arity: u8) -> Answer;
     fn delete(&mut self, table: &mut [u8], card: u32, arity: u8) -> Answer;
     fn search(&mut self, table: &[u8], lent: Search) -> Answer;
+    /// The k stored cards nearest to the query, equal distances by smaller card.
+    fn nearest(&mut self, table: &[u8], lent: Nearest) -> Answer;
     fn check(&mut self, table: &[u8]) -> Answer;
     /// All stored cards in slot order, from the list's start.
     fn cards(&mut self, table: &[u8], list: &mut [u32]) -> Answer;

@@ -13,11 +13,12 @@ pub const SHORT: u32 = 9;
 pub const LOOSE: u32 = 10;
 
 /// What each call can answer: done, and the refusals that the paper gives it. The last two calls go beyond the paper.
-pub const OF_CALLS: [(&str, &[u32]); 7] = [
+pub const OF_CALLS: [(&str, &[u32]); 8] = [
     ("clear", &[DONE, SIZE]),
     ("insert", &[DONE, SIZE, TABLE, ARGUMENT, KIND, TWICE, FULL, CLOCK]),
     ("delete", &[DONE, SIZE, TABLE, ARGUMENT, ABSENT, CLOCK]),
     ("search", &[DONE, SIZE, TABLE, ARGUMENT, KIND, SHORT]),
+    ("nearest", &[DONE, SIZE, TABLE, ARGUMENT, KIND, SHORT]),
     ("check", &[DONE, SIZE, TABLE, LOOSE]),
     ("cards", &[DONE, SIZE, TABLE, SHORT]),
     ("card", &[DONE, SIZE, TABLE, ARGUMENT, ABSENT, SHORT]),

@@ -1,7 +1,8 @@
 //! The stored cards as the accepted calls tell them, their slots, and the plain scan: which of them lie within a
-//! radius. It never looks at a table, so a card that a table lost or changed is missed here.
+//! radius, and which are the nearest. It never looks at a table, so a card that a table lost or changed is missed here.
 
 use crate::distance::{distance, Signature};
+use crate::index::Pair;
 use std::collections::{BTreeMap, BTreeSet};
 
 /// Each stored card with the kind and signature that its accepted insert brought.
@@ -57,5 +58,13 @@ impl Stored {
     pub fn within(&self, query: &Signature, radius: u32) -> BTreeSet<u32> {
         let near = |(kind, signature): &(u8, Signature)| distance(*kind, signature, query) <= radius;
         self.cards.iter().filter(|(_, entry)| near(entry)).map(|(card, _)| *card).collect()
+    }
+
+    /// The first k of all stored cards, nearest first, equal distances by smaller card; all where there are fewer.
+    pub fn first(&self, query: &Signature, k: usize) -> Vec<Pair> {
+        let far = |(card, (kind, signature)): (&u32, &(u8, Signature))| (distance(*kind, signature, query), *card);
+        let mut all: Vec<(u32, u32)> = self.cards.iter().map(far).collect();
+        all.sort();
+        all.into_iter().take(k).map(|(distance, card)| Pair { card, distance }).collect()
     }
 }

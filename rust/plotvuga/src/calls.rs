@@ -28,6 +28,25 @@ pub struct Found<'a> {
     pub cards: &'a [u32],
 }
 
+/// A stored card and its distance to the signature that was looked for.
+#[derive(Clone, Copy, Debug, Default, PartialEq, Eq, Hash)]
+#[repr(C)]
+pub struct Pair {
+    /// The card's number.
+    pub card: u32,
+    /// How far its signature is from the one that was looked for.
+    pub distance: u32,
+}
+
+/// An accepted call for the nearest few.
+#[derive(Clone, Copy, Debug, PartialEq, Eq)]
+pub struct Nearest<'a> {
+    /// How many distances were worked out; never more than cards are stored.
+    pub distances: u32,
+    /// The cards with their distances, nearest first: the front of the list that was lent.
+    pub pairs: &'a [Pair],
+}
+
 /// Empties the table: every byte becomes 0, whatever it was.
 ///
 /// ```
@@ -134,6 +153,41 @@ pub fn search<'a>(table: &[u8], signature: &Signature, radius: u32, list: &'a mu
     let kind = signature.kind().number();
     done(library::search(table, kind, signature.bytes(), radius, list, &mut distances, &mut found))?;
     Ok(Found { distances, cards: &list[..found as usize] })
+}
+
+/// Lists the `k` stored cards nearest to the signature, nearest first and equal distances by smaller card; all of them
+/// where fewer are stored. `k` is 1 to 64 ([`MOST_NEAREST`](crate::MOST_NEAREST)). The list has at least `k` entries,
+/// however few cards are stored; those after the cards listed keep what they held. On every sound table, so on every
+/// one that these calls alone have made, the list is exactly the first `k` of all stored cards in that order.
+///
+/// ```
+/// use plotvuga::{Pair, Signature};
+///
+/// let mut table = [0u8; 4 * plotvuga::RECORD];
+/// for (card, reading) in [(11, 500), (12, 900), (13, 505)] {
+///     plotvuga::insert(&mut table, card, &Signature::readings([reading; 16]), 4)?;
+/// }
+/// let mut list = [Pair::default(); 2];
+/// let near = plotvuga::nearest(&table, &Signature::readings([502; 16]), 2, &mut list)?;
+/// assert_eq!(near.pairs, [Pair { card: 11, distance: 32 }, Pair { card: 13, distance: 48 }]);
+/// # Ok::<(), plotvuga::Refusal>(())
+/// ```
+///
+/// # Errors
+/// In this order:
+///
+/// - [`Refusal::Size`], then [`Refusal::Table`]: the bytes are no well-formed table.
+/// - [`Refusal::Argument`]: a `k` that is not 1 to 64.
+/// - [`Refusal::Kind`]: the table holds cards of the other kind.
+/// - [`Refusal::Short`]: the list has fewer than `k` entries.
+///
+/// # Stack
+/// 47 KB; 512 KB suffice for every call.
+pub fn nearest<'a>(table: &[u8], signature: &Signature, k: u32, list: &'a mut [Pair]) -> Result<Nearest<'a>, Refusal> {
+    let (mut distances, mut found) = (0, 0);
+    let kind = signature.kind().number();
+    done(library::nearest(table, kind, signature.bytes(), k, list, &mut distances, &mut found))?;
+    Ok(Nearest { distances, pairs: &list[..found as usize] })
 }
 
 /// Whether the table is sound: done exactly if every search on it lists exactly the stored cards within its radius, and

@@ -3,8 +3,9 @@
 //!
 //! A card's [`Signature`] is sixteen readings or 256 fault bits. Cards are stored in a table of bytes, 64 for each
 //! record, 1 to 1,024 records, which the caller holds or lends. A search lists every stored card within a radius, each
-//! once; that none is missed is proved of every table that these calls have made. Tables may come from anywhere: every
-//! call but clear judges the whole table first, and a [`Refusal`] leaves everything as it was.
+//! once, and [`nearest`] the few that are nearest, with their distances; that none is missed is proved of every table
+//! that these calls have made. Tables may come from anywhere: every call but clear judges the whole table first, and a
+//! [`Refusal`] leaves everything as it was.
 //!
 //! The stack is the caller's to give: 512 KB suffice for every call, and each says how much it takes. A thread that
 //! Rust starts has 2 MB unless told otherwise.
@@ -28,6 +29,10 @@
 //!     let near = table.search(&card(48), 5)?;
 //!     assert_eq!(near.cards, [11, 14]);
 //!     assert_eq!(near.distances, 5);
+//!
+//!     // The nearest three, whatever their distance.
+//!     let few: Vec<_> = table.nearest(&card(48), 3)?.pairs.iter().map(|pair| (pair.card, pair.distance)).collect();
+//!     assert_eq!(few, [(11, 2), (14, 4), (15, 8)]);
 //!
 //!     table.delete(12, 2)?;
 //!     assert_eq!(table.delete(99, 2), Err(Refusal::Absent));
@@ -64,7 +69,8 @@ mod refusal;
 mod signature;
 mod table;
 
-pub use calls::{card, cards, check, clear, delete, free, insert, search, stored, Deleted, Found, Inserted};
+pub use calls::{card, cards, check, clear, delete, free, insert, nearest, search, stored};
+pub use calls::{Deleted, Found, Inserted, Nearest, Pair};
 pub use refusal::Refusal;
 pub use signature::{Kind, Signature};
-pub use table::{Cards, Stored, Table, MOST_RECORDS, RECORD};
+pub use table::{Cards, Pairs, Stored, Table, MOST_NEAREST, MOST_RECORDS, RECORD};

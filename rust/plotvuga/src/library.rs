@@ -1,6 +1,8 @@
 //! The library's functions as they are, over slices and numbers: each returns the refusal number, 0 for done, and
 //! sets its counts. The calls at the crate's top are these with types. All of the crate's `unsafe` is here.
 
+use crate::calls::Pair;
+
 extern "C" {
     fn plotvuga_clear(table: *mut u8, table_len: usize) -> u32;
     fn plotvuga_insert(
@@ -22,6 +24,18 @@ extern "C" {
         signature_len: usize,
         radius: u32,
         list: *mut u32,
+        list_len: usize,
+        count: *mut u32,
+        found: *mut u32,
+    ) -> u32;
+    fn plotvuga_nearest(
+        table: *const u8,
+        table_len: usize,
+        kind: u8,
+        signature: *const u8,
+        signature_len: usize,
+        k: u32,
+        list: *mut Pair,
         list_len: usize,
         count: *mut u32,
         found: *mut u32,
@@ -64,6 +78,20 @@ pub fn search(
 ) -> u32 {
     let (from, of, to) = (table.as_ptr(), signature.as_ptr(), list.as_mut_ptr());
     unsafe { plotvuga_search(from, table.len(), kind, of, signature.len(), radius, to, list.len(), count, found) }
+}
+
+/// `plotvuga_nearest`: the k nearest cards go to the front of the list; sets the distance count and how many they are.
+pub fn nearest(
+    table: &[u8],
+    kind: u8,
+    signature: &[u8],
+    k: u32,
+    list: &mut [Pair],
+    count: &mut u32,
+    found: &mut u32,
+) -> u32 {
+    let (from, of, to) = (table.as_ptr(), signature.as_ptr(), list.as_mut_ptr());
+    unsafe { plotvuga_nearest(from, table.len(), kind, of, signature.len(), k, to, list.len(), count, found) }
 }
 
 /// `plotvuga_check`: whether the table is sound.

@@ -21,7 +21,8 @@ pub enum Refusal {
     Size = 1,
     /// The table is not well formed: its bytes are not one tree of records. `include/plotvuga.h` says what is asked.
     Table = 2,
-    /// Card 0, or an arity that is not 1 to 8. Types see to the rest of what the C functions refuse so.
+    /// Card 0, an arity that is not 1 to 8, or a `k` that is not 1 to 64. Types see to the rest of what the C functions
+    /// refuse so.
     Argument = 3,
     /// The table holds cards of the other kind.
     Kind = 4,
@@ -35,7 +36,7 @@ pub enum Refusal {
     /// A fresh timestamp would pass 4,294,967,295. Store the cards anew in a cleared table, whose timestamps begin at
     /// 1: [`cards`](crate::cards) and [`card`](crate::card) tell what to store.
     Clock = 8,
-    /// The list has fewer entries than cards are stored.
+    /// The list has fewer entries than cards are stored, or, for the nearest few, than are asked for.
     Short = 9,
     /// The table is well formed but not sound: some search on it misses a card. Store its cards anew as for
     /// [`Refusal::Clock`].
@@ -90,7 +91,8 @@ impl Refusal {
             Refusal::Size => "the table's length is not a multiple of 64 from 64 to 65,536 bytes",
             Refusal::Table => "the table is not well formed: bring back a copy that was kept, or clear it",
             Refusal::Argument => {
-                "an argument is out of its range: card 1 or more, arity 1 to 8, kind 1 or 2, signature of 32 bytes"
+                "an argument is out of its range: card 1 or more, arity 1 to 8, kind 1 or 2, signature of 32 bytes, \
+                 k 1 to 64"
             }
             Refusal::Kind => "the table holds cards of the other kind: keep a table for each kind",
             Refusal::Twice => "the card is already stored: delete it before it is stored anew",
@@ -99,7 +101,10 @@ impl Refusal {
                 "no record is free: delete a card, or lend a longer table, the same bytes with zeros behind them"
             }
             Refusal::Clock => "no fresh timestamp is left: store the cards anew in a cleared table",
-            Refusal::Short => "the answer has no room: lend an entry for each stored card, or 32 bytes for a signature",
+            Refusal::Short => {
+                "the answer has no room: lend an entry for each stored card, k entries for the nearest k, or 32 bytes \
+                 for a signature"
+            }
             Refusal::Loose => {
                 "the table is not sound, so that a search can miss a card: store the cards anew in a cleared table"
             }

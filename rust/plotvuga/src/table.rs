@@ -1,6 +1,6 @@
 //! A table that is held, with the calls as its methods.
 
-use crate::calls::{self, Deleted, Inserted};
+use crate::calls::{self, Deleted, Inserted, Pair};
 use crate::refusal::Refusal;
 use crate::signature::Signature;
 use std::iter::FusedIterator;
@@ -9,6 +9,8 @@ use std::iter::FusedIterator;
 pub const RECORD: usize = 64;
 /// The most records that a table has.
 pub const MOST_RECORDS: usize = 1024;
+/// The most cards that can be asked for at once by [`nearest`](crate::nearest).
+pub const MOST_NEAREST: usize = 64;
 
 /// A table over bytes of its own (`Table`, made by [`Table::new`]) or over any others, lent or owned ([`Table::over`]).
 ///
@@ -25,6 +27,15 @@ pub struct Cards {
     pub distances: u32,
     /// The cards, in the order in which the search came upon them.
     pub cards: Vec<u32>,
+}
+
+/// The cards of a [`Table`] that are nearest to a signature.
+#[derive(Clone, Debug, PartialEq, Eq)]
+pub struct Pairs {
+    /// How many distances were worked out; never more than cards are stored.
+    pub distances: u32,
+    /// The cards with their distances, nearest first, equal distances by smaller card.
+    pub pairs: Vec<Pair>,
 }
 
 /// The cards that a [`Table`] held when it was asked ([`Table::cards`]), in the order of their slots.
@@ -100,6 +111,33 @@ impl<B: AsRef<[u8]>> Table<B> {
         let (distances, many) = (found.distances, found.cards.len());
         cards.truncate(many);
         Ok(Cards { distances, cards })
+    }
+
+    /// The `k` stored cards nearest to the signature, nearest first and equal distances by smaller card; all of them
+    /// where fewer are stored. `k` is 1 to 64.
+    ///
+    /// ```
+    /// use plotvuga::{Signature, Table};
+    ///
+    /// let mut table = Table::new(8)?;
+    /// for (card, reading) in [(11, 500), (12, 900), (13, 505)] {
+    ///     table.insert(card, &Signature::readings([reading; 16]), 4)?;
+    /// }
+    /// for pair in table.nearest(&Signature::readings([502; 16]), 2)?.pairs {
+    ///     println!("card {} is {} away", pair.card, pair.distance);
+    /// }
+    /// # Ok::<(), plotvuga::Refusal>(())
+    /// ```
+    ///
+    /// # Errors
+    /// As [`nearest`](crate::nearest), but never [`Refusal::Short`]: the list is the table's own.
+    pub fn nearest(&self, signature: &Signature, k: u32) -> Result<Pairs, Refusal> {
+        // A k that is too large is refused before the list is looked at.
+        let mut pairs = vec![Pair::default(); (k as usize).min(MOST_NEAREST)];
+        let found = calls::nearest(self.bytes(), signature, k, &mut pairs)?;
+        let (distances, many) = (found.distances, found.pairs.len());
+        pairs.truncate(many);
+        Ok(Pairs { distances, pairs })
     }
 
     /// Whether every search on this table lists exactly the near cards.

@@ -1,7 +1,7 @@
 //! The numbers and the words of include/plotvuga.h are the wrapper's: two doors to one library must not tell two
 //! stories.
 
-use plotvuga::{Kind, Refusal, Signature, Table, MOST_RECORDS, RECORD};
+use plotvuga::{Kind, Refusal, Signature, Table, MOST_NEAREST, MOST_RECORDS, RECORD};
 use std::collections::{BTreeMap, BTreeSet};
 
 const HEADER: &str = include_str!("../../../include/plotvuga.h");
@@ -48,6 +48,7 @@ fn wrapper() -> BTreeMap<String, u64> {
         ("RECORD", RECORD as u64),
         ("RECORDS", MOST_RECORDS as u64),
         ("SIGNATURE", Signature::BYTES as u64),
+        ("NEAREST", MOST_NEAREST as u64),
         ("READINGS", u64::from(Kind::Readings.number())),
         ("FAULTS", u64::from(Kind::Faults.number())),
     ]);

@@ -1,7 +1,7 @@
 //! The twin behind the library's C functions, as include/plotvuga.h has them. No part of the product.
 
 use std::slice::{from_raw_parts, from_raw_parts_mut};
-use twin::{Answer, Search};
+use twin::{Answer, Nearest, Pair, Search};
 
 /// Counts and kind as the header has them: set by every call, to 0 in a refusal.
 ///
@@ -19,9 +19,9 @@ unsafe fn told<T>(answer: Answer, to: *mut T, number: T) -> u32 {
 ///
 /// # Safety
 /// Under that slip, the entry after the list can be written.
-unsafe fn past(answer: Answer, list: *mut u32, list_len: usize) {
+unsafe fn past<T: Default>(answer: Answer, list: *mut T, list_len: usize) {
     if cfg!(feature = "writes_past_list") && answer.refusal == 0 {
-        unsafe { list.add(list_len).write(0) };
+        unsafe { list.add(list_len).write(T::default()) };
     }
 }
 
@@ -84,6 +84,36 @@ pub unsafe extern "C" fn plotvuga_search(
     let (table, signature) = unsafe { (from_raw_parts(table, table_len), from_raw_parts(signature, signature_len)) };
     let lent = Search { kind, signature, radius, list: unsafe { from_raw_parts_mut(list, list_len) } };
     let answer = twin::search(table, lent);
+    unsafe { past(answer, list, list_len) };
+    unsafe { found.write(answer.found) };
+    unsafe { told(answer, count, answer.count) }
+}
+
+/// # Safety
+/// As include/plotvuga.h has it.
+#[no_mangle]
+pub unsafe extern "C" fn plotvuga_nearest(
+    table: *const u8,
+    table_len: usize,
+    kind: u8,
+    signature: *const u8,
+    signature_len: usize,
+    k: u32,
+    list: *mut Pair,
+    list_len: usize,
+    count: *mut u32,
+    found: *mut u32,
+) -> u32 {
+    let (table, signature) = unsafe { (from_raw_parts(table, table_len), from_raw_parts(signature, signature_len)) };
+    let pairs = unsafe { from_raw_parts_mut(list, list_len) };
+    let answer = twin::nearest(table, Nearest { kind, signature, k, list: &mut *pairs });
+    let (listed, later) = pairs.split_at_mut(answer.found as usize);
+    if cfg!(feature = "pairs_swapped") {
+        listed.iter_mut().for_each(|pair| *pair = Pair { card: pair.distance, distance: pair.card });
+    }
+    if cfg!(feature = "pair_after_found") && answer.refusal == 0 {
+        later.iter_mut().take(1).for_each(|pair| *pair = Pair::default());
+    }
     unsafe { past(answer, list, list_len) };
     unsafe { found.write(answer.found) };
     unsafe { told(answer, count, answer.count) }

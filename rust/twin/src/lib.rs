@@ -4,6 +4,7 @@
 pub mod calls;
 pub mod check;
 pub mod judge;
+pub mod nearest;
 pub mod place;
 pub mod record;
 pub mod stored;
@@ -11,5 +12,6 @@ pub mod walk;
 
 pub use calls::{clear, delete, insert, search};
 pub use check::check;
-pub use model::index::{Answer, Search};
+pub use model::index::{Answer, Nearest, Pair, Search};
+pub use nearest::nearest;
 pub use stored::{card, cards};

@@ -3,7 +3,7 @@
 use model::calls::Model;
 use model::compare::{compare, Tally};
 use model::history::{any_history, full_table, history, Manner};
-use model::index::{Answer, Index, Search};
+use model::index::{Answer, Index, Nearest, Search};
 use model::random::Random;
 use model::record::RECORD;
 use model::signature::Source;
@@ -25,6 +25,10 @@ impl Index for Twin {
 
     fn search(&mut self, table: &[u8], lent: Search) -> Answer {
         twin::search(table, lent)
+    }
+
+    fn nearest(&mut self, table: &[u8], lent: Nearest) -> Answer {
+        twin::nearest(table, lent)
     }
 
     fn check(&mut self, table: &[u8]) -> Answer {

@@ -21,7 +21,7 @@ impl Edge {
     /// A card into a row of so many bytes, with what it was stored with.
     fn card(mut self, card: u32, row: usize, kind: u8, signature: &[u8; 32]) -> Edge {
         let answer = Answer { kind, ..Answer::refused(DONE) };
-        let written = Lent { list: Vec::new(), row: signature.to_vec() };
+        let written = Lent { row: signature.to_vec(), ..Lent::default() };
         self.steps.push(Step { command: Command::Card { card, row }, answer, written });
         self
     }

@@ -31,7 +31,7 @@ impl Author {
         Author { follows: false, ..Author::on(random, &vec![0; records * RECORD], kind) }
     }
 
-    fn signature(&mut self, random: &mut Random) -> Vec<u8> {
+    pub fn signature(&mut self, random: &mut Random) -> Vec<u8> {
         let stored: Vec<Vec<u8>> = match random.percent(25) {
             true => parse_table(&self.table).iter().filter(|r| r.used()).map(|r| r.signature.to_vec()).collect(),
             false => Vec::new(),
@@ -69,6 +69,20 @@ impl Author {
         let radius = if random.percent(30) { random.pick(&ends) } else { random.pick(&drawn) } as u32;
         let places = self.table.len() / RECORD + random.below(3);
         Command::Search { kind: self.kind, signature: self.signature(random), radius, places }
+    }
+
+    /// The nearest few, sometimes as many as are stored or about that, mostly with a list that is long enough.
+    pub fn nearest(&mut self, random: &mut Random) -> Command {
+        let stored = used(&self.table).clamp(1, 63) as u32;
+        let k = match random.below(10) {
+            0 => random.pick(&[0, 65, u32::MAX]),
+            1..=3 => random.pick(&[stored, stored + 1, (stored - 1).max(1)]),
+            4 | 5 => random.pick(&[1, 63, 64]),
+            _ => random.from_to(1, 64) as u32,
+        };
+        let places = k.min(70) as usize + random.pick(&[0, 0, 1, 9]);
+        let places = if random.percent(5) { places.saturating_sub(1) } else { places };
+        Command::Nearest { kind: self.kind, signature: self.signature(random), k, places }
     }
 
     /// All cards, into a list that is long enough or just about.

@@ -42,10 +42,12 @@ fn every_call(random: &mut Random, start: Vec<u8>) -> History {
     let mut commands = vec![
         Command::Check,
         author.search(random),
+        author.nearest(random),
         author.insert(random),
         Command::Delete { card: stored, arity: 3 },
         Command::Insert { card: 0, kind: 9, signature: vec![1; 5], arity: 0 },
         Command::Search { kind: 0, signature: vec![], radius: 0, places: 0 },
+        Command::Nearest { kind: 0, signature: vec![], k: 0, places: 0 },
         Command::Delete { card: 0, arity: 0 },
         Command::Cards { places: start.len() / RECORD },
         Command::Cards { places: 0 },
@@ -53,7 +55,7 @@ fn every_call(random: &mut Random, start: Vec<u8>) -> History {
         Command::Card { card: 0, row: 0 },
     ];
     random.shuffle(&mut commands);
-    commands.extend([Command::Clear, author.insert(random), author.search(random)]);
+    commands.extend([Command::Clear, author.insert(random), author.search(random), author.nearest(random)]);
     commands.extend([Command::Cards { places: 1 }, Command::Card { card: stored, row: 32 }]);
     History { start, commands }
 }
@@ -65,7 +67,7 @@ pub fn loosened(random: &mut Random, _: usize) -> History {
     let mut author = Author::on(random, &start, kind_of(&start));
     let mut commands = vec![Command::Check];
     for _ in 0..6 {
-        commands.extend([author.search(random), author.insert(random)]);
+        commands.extend([author.search(random), author.nearest(random), author.insert(random)]);
         let role = random.pick(&Role::ALL);
         commands.extend(author.delete(random, role));
         commands.extend([author.cards(random), author.card(random)]);

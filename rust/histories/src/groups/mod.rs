@@ -3,6 +3,7 @@
 mod arguments;
 mod author;
 mod damaged;
+mod few;
 mod roles;
 mod run;
 mod shapes;
@@ -23,7 +24,7 @@ type Draw = fn(&mut Random, usize) -> History;
 
 /// Each group with its number of histories at the gate's amount. A group is drawn after the one before it from the same
 /// numbers, so the order is part of what a seed gives.
-const GROUPS: [(&str, usize, Draw); 19] = [
+const GROUPS: [(&str, usize, Draw); 22] = [
     ("calls alone from a free table, 1 to 24 records", 6000, sizes::fresh_small),
     ("calls alone from a free table, 25 to 200 records", 240, sizes::fresh_medium),
     ("calls alone from a free table, 201 to 1,024 records", 12, sizes::fresh_large),
@@ -42,5 +43,8 @@ const GROUPS: [(&str, usize, Draw); 19] = [
     ("lists shorter than, as long as and longer than the stored cards", 600, arguments::lists),
     ("rows shorter than, as long as and longer than a signature", 600, arguments::rows),
     ("arguments in all combinations", 24, arguments::arguments),
+    ("the nearest few, every k from 1 to 64", 400, few::every_k),
+    ("the nearest few in full tables of 1,024 records, any shape", 20, few::largest),
+    ("the nearest few, arguments in all combinations", 24, few::arguments),
     ("chains and full trees of 1,024 records", 8, shapes::largest),
 ];

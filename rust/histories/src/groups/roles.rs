@@ -27,7 +27,7 @@ fn by_role(random: &mut Random, records: usize, deletes: usize) -> History {
     for _ in 0..deletes {
         let role = random.pick(&Role::ALL);
         commands.extend(author.delete(random, role));
-        commands.extend([author.search(random), author.cards(random)]);
+        commands.extend([author.search(random), author.nearest(random), author.cards(random)]);
         if random.percent(60) {
             commands.push(author.insert(random));
         }
@@ -47,7 +47,8 @@ pub fn down_to_free(random: &mut Random, _: usize) -> History {
     while used(&author.table) > 0 {
         let role = random.pick(&Role::ALL);
         commands.extend(author.delete(random, role));
-        commands.extend([author.search(random), author.cards(random), author.card(random), Command::Check]);
+        commands.extend([author.search(random), author.nearest(random)]);
+        commands.extend([author.cards(random), author.card(random), Command::Check]);
     }
     // The single card that was left stood as root; the table is free again and takes the other kind.
     author.kind = 3 - kind;

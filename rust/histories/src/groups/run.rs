@@ -28,7 +28,8 @@ impl Report {
         for (refusal, times) in self.tally.refusals().iter().enumerate() {
             text += &format!("{} {times} {}", if refusal == 0 { ":" } else { "," }, name(refusal as u32));
         }
-        text += &format!("; {} searches held against a plain scan as well", self.tally.scanned);
+        text += &format!("; {} searches and {} lists of the nearest few", self.tally.scanned, self.tally.ranked);
+        text += " held against a plain scan as well";
         text + &format!(", and {} answers what is stored against what the calls stored", self.tally.told)
     }
 }
@@ -142,7 +143,8 @@ fn first_wrong<D: Doors>(index: &mut Guarded<D>, edge: &edges::Edge) -> Option<S
             return Some(format!("{command}\n{own:?}\nand not {answer:?}"));
         }
         let list = same("list entry", &lent.list, &over(&before.list, &written.list));
-        if let Err(what) = list.and(same("row byte", &lent.row, &over(&before.row, &written.row))) {
+        let pairs = same("pair", &lent.pairs, &over(&before.pairs, &written.pairs));
+        if let Err(what) = list.and(pairs).and(same("row byte", &lent.row, &over(&before.row, &written.row))) {
             return Some(format!("{command}\n{what}"));
         }
     }

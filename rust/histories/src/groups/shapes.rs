@@ -18,7 +18,8 @@ pub fn one_signature(random: &mut Random, _: usize) -> History {
     for _ in 0..10 {
         let role = random.pick(&Role::ALL);
         commands.extend(author.delete(random, role));
-        commands.extend([author.search(random), author.cards(random), author.card(random), author.insert(random)]);
+        commands.extend([author.search(random), author.nearest(random)]);
+        commands.extend([author.cards(random), author.card(random), author.insert(random)]);
     }
     History { start, commands }
 }
@@ -42,7 +43,7 @@ pub fn star(random: &mut Random, _: usize) -> History {
     }
     author.only = None;
     for role in Role::ALL {
-        commands.extend([author.search(random), author.search(random)]);
+        commands.extend([author.search(random), author.search(random), author.nearest(random)]);
         commands.extend(author.delete(random, role));
         commands.push(author.insert(random));
     }
@@ -61,7 +62,7 @@ pub fn late(random: &mut Random, _: usize) -> History {
     for _ in 0..14 {
         match random.below(6) {
             0 | 1 => commands.push(author.insert(random)),
-            2 => commands.push(author.search(random)),
+            2 => commands.extend([author.search(random), author.nearest(random)]),
             3 => commands.extend([author.cards(random), author.card(random)]),
             _ => {
                 let role = random.pick(&Role::ALL);
@@ -83,11 +84,11 @@ pub fn largest(random: &mut Random, round: usize) -> History {
         Command::Search { kind, signature, radius: u32::MAX, places }
     };
     let mut commands = vec![everything(&mut author, random), Command::Check, author.insert(random)];
-    commands.push(Command::Cards { places: MOST_RECORDS });
+    commands.extend([Command::Cards { places: MOST_RECORDS }, author.nearest(random), author.nearest(random)]);
     commands.extend(author.delete(random, Role::Root));
     commands.extend([everything(&mut author, random), Command::Check, author.insert(random)]);
     commands.extend([author.cards(random), author.card(random)]);
     commands.extend(author.delete(random, Role::Middle));
-    commands.extend([author.search(random), author.search(random)]);
+    commands.extend([author.search(random), author.search(random), author.nearest(random)]);
     History { start, commands }
 }

@@ -32,7 +32,7 @@ pub fn rough(random: &mut Random, _: usize) -> History {
     history(random, Manner::Rough, records, 30 + 3 * records)
 }
 
-/// Twelve calls or so on a table of so many records, not quite full, or full.
+/// Fourteen calls or so on a table of so many records, not quite full, or full.
 pub fn every_size(random: &mut Random, round: usize) -> History {
     let records = round + 1;
     let free = random.pick(&[0, 1, 1, 2, records / 3]);
@@ -40,10 +40,11 @@ pub fn every_size(random: &mut Random, round: usize) -> History {
     let kind = random.pick(&[1, 2]);
     let start = assemble::table(random, records, records.saturating_sub(free), shape, clock, kind);
     let mut author = Author::on(random, &start, kind);
-    let mut commands = vec![author.search(random), author.insert(random), author.insert(random)];
+    let mut commands = vec![author.search(random), author.nearest(random)];
+    commands.extend([author.insert(random), author.insert(random)]);
     commands.extend(author.delete(random, Role::Leaf));
     commands.extend(author.delete(random, Role::Any));
-    commands.extend([author.insert(random), author.search(random), Command::Check]);
+    commands.extend([author.insert(random), author.search(random), author.nearest(random), Command::Check]);
     commands.extend([author.cards(random), author.card(random)]);
     History { start, commands }
 }

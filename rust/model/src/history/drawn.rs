@@ -33,8 +33,7 @@ pub fn history(random: &mut Random, manner: Manner, records: usize, commands: us
         let used = random.below(records + 1);
         let (shape, clock) = (random.pick(&assemble::Shape::ALL), random.pick(&assemble::Clock::ALL));
         start = assemble::table(random, records, used, shape, clock, author.kind);
-        let stored: Vec<u32> = Model::cards_from_the_root(&start);
-        author.cards.extend(stored);
+        author.begins_with(&Model::cards_from_the_root(&start));
     }
     let mut list = Vec::new();
     while list.len() < commands {

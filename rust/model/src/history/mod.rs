@@ -5,7 +5,7 @@ mod drawn;
 
 pub use drawn::{any_history, full_table, grown_table, history, Manner};
 
-use crate::index::{Answer, Index, Search};
+use crate::index::{Answer, Index, Nearest, Pair, Search};
 use crate::record::RECORD;
 use std::fmt;
 
@@ -28,6 +28,12 @@ pub enum Command {
         radius: u32,
         places: usize,
     },
+    Nearest {
+        kind: u8,
+        signature: Vec<u8>,
+        k: u32,
+        places: usize,
+    },
     Check,
     Cards {
         places: usize,
@@ -48,6 +54,7 @@ pub enum Command {
 #[derive(Clone, Debug, Default, PartialEq, Eq)]
 pub struct Lent {
     pub list: Vec<u32>,
+    pub pairs: Vec<Pair>,
     pub row: Vec<u8>,
 }
 
@@ -70,6 +77,10 @@ impl Command {
                 let list = &mut lent.list;
                 Some(index.search(table, Search { kind: *kind, signature, radius: *radius, list }))
             }
+            Command::Nearest { kind, signature, k, .. } => {
+                let list = &mut lent.pairs;
+                Some(index.nearest(table, Nearest { kind: *kind, signature, k: *k, list }))
+            }
             Command::Check => Some(index.check(table)),
             Command::Cards { .. } => Some(index.cards(table, &mut lent.list)),
             Command::Card { card, .. } => Some(index.card(table, *card, &mut lent.row)),
@@ -84,15 +95,21 @@ impl Command {
 
     /// What is lent to this command: hardly an entry is one that a call would write by chance, or is like another.
     pub fn lent(&self) -> Lent {
-        let (places, bytes) = match self {
-            Command::Search { places, .. } | Command::Cards { places } => (*places, 0),
-            Command::Card { row, .. } => (0, *row),
-            _ => (0, 0),
-        };
-        Lent {
-            list: (0..places as u32).map(|place| 0xdead_0000 + place).collect(),
-            row: (0..bytes).map(|place| (0xa3 + 29 * place) as u8).collect(),
+        let mut lent = Lent::default();
+        match self {
+            Command::Search { places, .. } | Command::Cards { places } => {
+                lent.list = (0..*places as u32).map(|place| 0xdead_0000 + place).collect();
+            }
+            Command::Nearest { places, .. } => {
+                let pair = |place: u32| Pair { card: 0xdead_0000 + place, distance: 0xbeef_0000 + place };
+                lent.pairs = (0..*places as u32).map(pair).collect();
+            }
+            Command::Card { row, .. } => {
+                lent.row = (0..*row).map(|place| (0xa3 + 29 * place) as u8).collect();
+            }
+            _ => {}
         }
+        lent
     }
 
     /// The name of the call; bytes turned from outside have one as well.
@@ -102,6 +119,7 @@ impl Command {
             Command::Insert { .. } => "insert",
             Command::Delete { .. } => "delete",
             Command::Search { .. } => "search",
+            Command::Nearest { .. } => "nearest",
             Command::Check => "check",
             Command::Cards { .. } => "cards",
             Command::Card { .. } => "card",
@@ -137,6 +155,9 @@ impl fmt::Display for Command {
             Command::Delete { card, arity } => write!(f, " card {card} arity {arity}"),
             Command::Search { kind, signature, radius, places } => {
                 write!(f, " kind {kind} radius {radius} places {places} signature {}", Hex(signature))
+            }
+            Command::Nearest { kind, signature, k, places } => {
+                write!(f, " kind {kind} k {k} places {places} signature {}", Hex(signature))
             }
             Command::Cards { places } => write!(f, " places {places}"),
             Command::Card { card, row } => write!(f, " {card} row of {row} bytes"),

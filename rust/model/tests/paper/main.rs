@@ -1,9 +1,10 @@
-//! The paper's listing, its edges and its errors that look right, worked out by hand and held against the model; and
-//! edges of the calls that go beyond the paper.
+//! The paper's listing, its edges and its errors that look right, worked out by hand and held against the model; those
+//! of the nearest few cards; and edges of the calls that go beyond the paper.
 
 mod edges;
 mod errors;
 mod listing;
+mod nearest;
 mod stored;
 
 use model::calls::Model;

@@ -1,6 +1,9 @@
 //! Wrong indexes that look right, each with one slip: the comparison must catch every one of them and shorten the
 //! history that shows it. An index without a slip must pass, so the slips alone are what is caught.
 
+mod nearest;
+mod short;
+mod slip;
 mod slipped;
 mod stored;
 mod walk;
@@ -9,102 +12,8 @@ use model::calls::Model;
 use model::compare::{compare, run};
 use model::history::{history, Manner};
 use model::random::Random;
+use slip::{Slip, ALL};
 use slipped::Slipped;
-
-#[derive(Clone, Copy, Debug, PartialEq, Eq)]
-enum Slip {
-    None,
-    // The paper's errors that look right, and 000's bound that drops t.
-    ParentAmongCandidates,
-    YoungerInSmallest,
-    FoundByWalking,
-    OldTimestamps,
-    BoundDropped,
-    // Slips in search.
-    NoBound,
-    BoundNotSmallest,
-    OneRadius,
-    SumsWrap,
-    WalkReversed,
-    CountListed,
-    LaterEntriesZeroed,
-    // Slips in insert and delete.
-    TieToYoungest,
-    NotStrictly,
-    ArityIgnored,
-    RadiusKept,
-    RadiusShrinks,
-    LowestSlotAgain,
-    NewestFirst,
-    FullBeforeTwice,
-    WritesWhenRefused,
-    // Slips in telling what is stored.
-    CardsInTreeOrder,
-    CardsWithFree,
-    CardLeftOut,
-    LaterCardsZeroed,
-    /// A list with fewer entries than records is refused, free ones counted too.
-    CardsNeedAll,
-    FoundWhenShort,
-    CardsWhenShort,
-    CardsNotJudged,
-    KindAlwaysReadings,
-    SignatureOfFirst,
-    RowPastSignature,
-    ShortBeforeAbsent,
-    CardZeroAbsent,
-    /// Card 0 is found in a free record.
-    CardZeroFree,
-    KindWhenRefused,
-    RowWhenShort,
-    CardNotJudged,
-    // Shams that the contract must shut out.
-    RefusesAll,
-    StoresFirstOnly,
-}
-
-const ALL: [Slip; 40] = [
-    Slip::ParentAmongCandidates,
-    Slip::YoungerInSmallest,
-    Slip::FoundByWalking,
-    Slip::OldTimestamps,
-    Slip::BoundDropped,
-    Slip::NoBound,
-    Slip::BoundNotSmallest,
-    Slip::OneRadius,
-    Slip::SumsWrap,
-    Slip::WalkReversed,
-    Slip::CountListed,
-    Slip::LaterEntriesZeroed,
-    Slip::TieToYoungest,
-    Slip::NotStrictly,
-    Slip::ArityIgnored,
-    Slip::RadiusKept,
-    Slip::RadiusShrinks,
-    Slip::LowestSlotAgain,
-    Slip::NewestFirst,
-    Slip::FullBeforeTwice,
-    Slip::WritesWhenRefused,
-    Slip::CardsInTreeOrder,
-    Slip::CardsWithFree,
-    Slip::CardLeftOut,
-    Slip::LaterCardsZeroed,
-    Slip::CardsNeedAll,
-    Slip::FoundWhenShort,
-    Slip::CardsWhenShort,
-    Slip::CardsNotJudged,
-    Slip::KindAlwaysReadings,
-    Slip::SignatureOfFirst,
-    Slip::RowPastSignature,
-    Slip::ShortBeforeAbsent,
-    Slip::CardZeroAbsent,
-    Slip::CardZeroFree,
-    Slip::KindWhenRefused,
-    Slip::RowWhenShort,
-    Slip::CardNotJudged,
-    Slip::RefusesAll,
-    Slip::StoresFirstOnly,
-];
 
 #[test]
 fn without_a_slip_nothing_is_caught() {
@@ -157,5 +66,45 @@ fn slips_in_telling_what_is_stored_are_caught_by_what_the_calls_stored() {
             run(&mut Slipped(slip), &mut Slipped(slip), &history).is_err()
         });
         assert!(caught, "{slip:?} was never caught");
+    }
+}
+
+/// The same for the nearest few: the plain scan alone shows every slip that lists other cards.
+#[test]
+fn slips_in_listing_the_nearest_are_caught_by_the_plain_scan() {
+    let listing = [
+        Slip::NearestReached,
+        Slip::NearestYounger,
+        Slip::NearestParentJudges,
+        Slip::NearestNotHalved,
+        Slip::NearestApart,
+        Slip::NearestWraps,
+        Slip::NearestOnceK,
+        Slip::NearestLargerCard,
+        Slip::NearestTieStays,
+        Slip::NearestLastDropped,
+    ];
+    for slip in listing {
+        let mut random = Random::new(14);
+        let caught = (0..2000).any(|round| {
+            let history = history(&mut random, Manner::Fresh, 2 + round % 30, 120);
+            run(&mut Slipped(slip), &mut Slipped(slip), &history).is_err()
+        });
+        assert!(caught, "{slip:?} was never caught");
+    }
+}
+
+/// On a sound table a record is taken exactly if its bound is at most the k-th distance; so neither its parent's bound
+/// nor the choice among equal bounds shows there. These are caught on loose tables alone.
+#[test]
+fn slips_that_only_a_loose_table_shows() {
+    for slip in [Slip::NearestNoParent, Slip::NearestYoungerFirst, Slip::NearestByCard, Slip::NearestBySlot] {
+        let mut random = Random::new(15);
+        for round in 0..300 {
+            let history = history(&mut random, Manner::Fresh, 2 + round % 30, 120);
+            if let Err(failure) = compare(&mut Slipped(slip), &mut Model, &history) {
+                panic!("{slip:?} on a sound table\n{failure}");
+            }
+        }
     }
 }

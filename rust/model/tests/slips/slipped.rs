@@ -1,9 +1,9 @@
 //! The index with one slip: its calls, and insert and delete as they slip.
 
 use crate::walk::Walk;
-use crate::{stored, Slip};
+use crate::{nearest, stored, Slip};
 use model::calls::Model;
-use model::index::{Answer, Index, Search};
+use model::index::{Answer, Index, Nearest, Search};
 use model::refusal::{ABSENT, DONE, FULL, TWICE};
 use model::tree::{Node, Tree};
 
@@ -161,6 +161,10 @@ impl Index for Slipped {
         answer.found = walk.listed.len() as u32;
         answer.count = if self.has(Slip::CountListed) { answer.found } else { walk.count };
         answer
+    }
+
+    fn nearest(&mut self, table: &[u8], lent: Nearest) -> Answer {
+        nearest::nearest(self.0, table, lent)
     }
 
     fn check(&mut self, table: &[u8]) -> Answer {

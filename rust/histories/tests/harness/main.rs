@@ -1,6 +1,8 @@
 //! The comparison itself: a right library passes, and a wrong one is caught and shown as a short history.
 
-use histories::doors::{Doors, Linked};
+mod few;
+
+use histories::doors::{Doors, Linked, Nearest};
 use histories::groups::{run_all, Report};
 use model::index::Search;
 
@@ -45,9 +47,29 @@ enum Slip {
     CardShortByOne,
     /// A short row is refused before an absent card is.
     CardShortFirst,
+    // At the door of the nearest few.
+    NearestCountNotSet,
+    NearestFoundNotSet,
+    NearestCountShort,
+    NearestPastList,
+    NearestBeforeList,
+    NearestLaterEntries,
+    NearestWritesTable,
+    /// Card and distance change places.
+    NearestSwapped,
+    /// Equal distances go by larger card.
+    NearestTieByLarger,
+    /// 64 taken for 63.
+    NearestCut,
+    /// 65 taken for 64.
+    NearestBeyond,
+    /// A list of k entries is refused.
+    NearestShortByOne,
+    /// A list shorter than k is taken where it has room for all that are stored.
+    NearestShortByStored,
 }
 
-const ALL: [Slip; 23] = [
+const SLIPS: [Slip; 23] = [
     Slip::CountNotSet,
     Slip::FoundNotSet,
     Slip::PastList,
@@ -128,6 +150,10 @@ impl Doors for Wrong {
         refusal
     }
 
+    fn nearest(&mut self, table: &[u8], lent: Nearest, count: &mut u32, found: &mut u32) -> u32 {
+        few::slipped(self.0, table, lent, count, found)
+    }
+
     fn check(&mut self, table: &[u8]) -> u32 {
         if self.0 == Slip::CheckWrites && !table.is_empty() {
             write(table.as_ptr(), !table[0]);
@@ -183,6 +209,7 @@ fn a_right_library_passes_and_the_same_seed_gives_the_same() {
     let (report, text) = run(5);
     assert_eq!(report.failed, 0, "{text}");
     assert!(report.tally.calls > 2000 && report.tally.told > 200, "{}", report.calls());
+    assert!(report.tally.ranked > 100, "{}", report.calls());
     assert!(report.tally.not_met().is_empty(), "{:?}", report.tally.not_met());
     assert_eq!(run(5).1, text);
     assert_ne!(run(6).1, text);
@@ -190,7 +217,16 @@ fn a_right_library_passes_and_the_same_seed_gives_the_same() {
 
 #[test]
 fn every_slip_at_the_doors_is_caught_and_shown() {
-    for slip in ALL {
+    caught(&SLIPS);
+}
+
+#[test]
+fn every_slip_at_the_door_of_the_nearest_few_is_caught_and_shown() {
+    caught(&few::ALL);
+}
+
+fn caught(slips: &[Slip]) {
+    for slip in slips.iter().copied() {
         let (report, text) = lines(|print| run_all(Wrong(slip), Wrong(slip), 5, 1, print));
         println!("{slip:?}: {} failed", report.failed);
         assert!(report.failed > 0, "{slip:?} was not caught");
