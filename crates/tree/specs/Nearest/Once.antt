@@ -15,7 +15,7 @@ use Rattle.tree.specs.View.{View, Used, Formed, usedCount, compared, dis
 use Rattle.tree.specs.View.Shape.{children-distinct}
 use Rattle.tree.specs.View.Count.{compared-distinct, compared-used, distanceCount-at-most}
 use Rattle.tree.specs.Nearest.{Waiting, lowerBound, wait, isOver, atFirst, Takes, none-waits, over, takes}
-use Rattle.tree.specs.Nearest.Wait.{InRow, next-bound, slotOf, slots, wait-keeps, wait-adds, wait-row}
+use Rattle.tree.specs.Nearest.Wait.{InRow, row-rest, next-bound, slotOf, slots, wait-keeps, wait-adds, wait-row}
 use Rattle.tree.specs.Nearest.Wait.{children-from, children-slots-from}
 
 -- ---- the records compared
@@ -82,17 +82,11 @@ module _ {Sig : Type 0} (d : Sig → Sig → ℕ) {v : View Sig} (q : Sig) {n ro
         let z = flatMap-from (v .children) b ts j in
         next-new (Memᴰ·cast (sym (wf .child-parent (w .slot) b i) ∙ wf .child-parent (z .0) b (z .2)) (z .1))
 
-    rest-row : InRow v ws
-    rest-row = record {
-      once = g .row .once .1;
-      used = λ x i. g .row .used x (later i);
-      ascends = g .row .ascends .1;
-    }
-
     pub going-on : Going v root (wait d v q (w .lower) [] (v .children (w .slot)) ws) (w .slot ∷ ts)
     going-on = record {
       row = wait-row d v q (w .lower) wf [] (v .children (w .slot)) ws (children-distinct wf (w .slot))
-          (λ b i. wf .child-used (w .slot) b i) (λ b i j. child-new b i (g .waits-met b (later j))) rest-row;
+          (λ b i. wf .child-used (w .slot) b i) (λ b i j. child-new b i (g .waits-met b (later j)))
+          (row-rest v (g .row));
       taken-once = (next-new, g .taken-once);
       apart = λ a i j. either (from a j) (still a i) (fresh a i);
       taken-met = λ a i. compared-more v root (w .slot) a ts (inl (met-before a i));

@@ -54,6 +54,10 @@ module _ {Sig : Type 0} (v : View Sig) where
       → w .lower ≤ x .lower
   next-bound row x i = ahead-first _ _ _ _ (next-is-least row x i)
 
+  -- with the first taken, the others still stand in a row
+  pub row-rest : {w : Waiting} {ws : List Waiting} → InRow v (w ∷ ws) → InRow v ws
+  row-rest r = record { once = r .once .1; used = λ x i. r .used x (later i); ascends = r .ascends .1 }
+
 -- ---- children wait
 
 module _ {Sig : Type 0} (d : Sig → Sig → ℕ) (v : View Sig) (q : Sig) (p : ℕ) where

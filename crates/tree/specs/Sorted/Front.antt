@@ -4,6 +4,7 @@ use mathlib.Core.Path.{_≡_, refl, ap}
 use mathlib.Core.List.{List, [], _∷_, List·Memᴰ, List·Memᴰ·head as first, List·Memᴰ·tail as later, List·Memᴰ·not-nil}
 use native.Mathlib.Omega.{arith}
 use lib.ListN.{length, getD, take}
+use lib.Seq.{getD-take}
 
 module _ {A : Type 0} where
   take-less : (k : ℕ) (l : List A) → take k (take (suc k) l) ≡ take k l
@@ -23,13 +24,7 @@ module _ {A : Type 0} where
 
   -- the k-th of the first k is the k-th
   pub take-last : (k : ℕ) (l : List A) (o : A) → 1 ≤ k → getD (take k l) (k - 1) o ≡ getD l (k - 1) o
-  take-last k l o h = go k (k - 1) l (omega arith)
-    where
-      go : (k i : ℕ) (l : List A) → i < k → getD (take k l) i o ≡ getD l i o
-      go zero i l h = absurd (omega arith)
-      go (suc k) i [] h = refl
-      go (suc k) zero (x ∷ l) h = refl
-      go (suc k) (suc i) (x ∷ l) h = go k i l (omega arith)
+  take-last k l o h = getD-take k l (k - 1) o (omega arith)
 
   pub getD-member : (i : ℕ) (l : List A) (o : A) → i < length l → List·Memᴰ (getD l i o) l
   getD-member i [] o h = absurd (omega arith)

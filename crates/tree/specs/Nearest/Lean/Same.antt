@@ -19,7 +19,7 @@ use Rattle.tree.specs.View.Shape.{children-distinct}
 use Rattle.tree.specs.View.Count.{used-at-most}
 use Rattle.tree.specs.Nearest.{Waiting, waiting, lowerBound, wait, held, isOver, atFirst, taken}
 use Rattle.tree.specs.Nearest.{Takes, none-waits, over, takes}
-use Rattle.tree.specs.Nearest.Wait.{next-is-least}
+use Rattle.tree.specs.Nearest.Wait.{row-rest, next-is-least}
 use Rattle.tree.specs.Nearest.Once.{Going, going-first, going-on, child-new}
 use Rattle.tree.specs.Nearest.Fuel.{taken-obeys, taken-distinct, taken-used}
 use Rattle.tree.specs.Nearest.Lean.{Work, work, isIdle, meet, meets, onward, goesOn, begins}
@@ -125,11 +125,7 @@ module _ {Sig : Type 0} (d : Sig → Sig → ℕ) {v : View Sig} (q : Sig) (k : 
         rest = record {
           once = b .far .once;
           used = b .far .used;
-          row = record {
-            once = b .far .row .once .1;
-            used = λ x i. b .far .row .used x (later i);
-            ascends = b .far .row .ascends .1;
-          };
+          row = row-rest v (b .far .row);
           waits-met = λ a i. b .far .waits-met a (later i);
           leaner = l;
         }
