@@ -88,7 +88,7 @@ fn search_from(
     };
     let away = steps::away_from(t, kind, q, root);
     let start = waiting::meet(t, root, k, away, 0, FARTHEST as u64, &mut waits, held, none);
-    waiting::take_all(t, kind, q, k, &mut waits, held, start, used)
+    taking::take_all(t, kind, q, k, &mut waits, held, start, used)
 }
 
 // The card and the distance in a key.

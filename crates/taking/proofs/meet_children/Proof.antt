@@ -1,4 +1,4 @@
--- `waiting::meet_children` meets its contract. The loop's invariant: the children from j on, compared after what stands
+-- `taking::meet_children` meets its contract. The loop's invariant: the children from j on, compared after what stands
 -- in the rows, leave what all children leave. Assumes nothing.
 use Prim.Native.Nat.{ℕ, _+_, _-_, _≤_, _<_}
 use mathlib.Core.Path.{_≡_, refl, sym, subst, _∙_}
@@ -8,11 +8,11 @@ use Rattle.refusals.specs.Limits.{mostChildren}
 use Rattle.table.specs.Record.{Record, recordOf}
 use Rattle.table.specs.Stands.{Stands}
 use Rattle.steps.specs.Loop.Laws.{count-slots}
 use Rattle.waiting.specs.Front.{meetChildren}
 use Rattle.waiting.specs.Rows.{frontOf, Rows}
 use Rattle.waiting.specs.Going.{meetFrom, meet-turn, meet-end, one-counted}
-use Rattle.waiting.proofs.meet_children.Statement.{statement}
-use Rattle.waiting.proofs.meet_children.Tie as tie
+use Rattle.taking.proofs.meet_children.Statement.{statement}
+use Rattle.taking.proofs.meet_children.Tie as tie
 
 abbrev Inv-loop : tie.InvT-loop
 Inv-loop t kind q k s p waits₀ held₀ n f₀ near₀ j₀ waits held f near j =

@@ -1,4 +1,4 @@
--- `waiting::take_all` meets its contract. The loop's invariant: the work that is left, from what stands in the rows on,
+-- `taking::take_all` meets its contract. The loop's invariant: the work that is left, from what stands in the rows on,
 -- ends where the whole work ends; and each key that waits tells a slot and a bound. Assumes nothing.
 use Prim.Native.Nat.{ℕ, _+_, _-_, _≤_, _<_}
 use mathlib.Core.Path.{_≡_, refl, sym, ap, subst, _∙_}
@@ -12,14 +12,14 @@ use Rattle.refusals.specs.Limits.{mostRecords}
 use Rattle.table.specs.Record.{Record, recordOf}
 use Rattle.table.specs.Fitting.{Fitting, record-fits}
 use Rattle.steps.specs.Loop.Laws.{count-slots}
 use Rattle.waiting.specs.Key.{firstIn, slotIn}
 use Rattle.waiting.specs.Front.{State, exceeds, finish}
 use Rattle.waiting.specs.Rows.{frontOf, Rows, Known}
 use Rattle.waiting.specs.Going.{finish-end, finish-none, finish-over, finish-taken}
 use Rattle.waiting.specs.Going.{finish-counts, taken-counted, first-waits, rows-rest}
 use Rattle.waiting.specs.Known.{Tells, children-known}
-use Rattle.waiting.proofs.take_all.Statement.{statement}
-use Rattle.waiting.proofs.take_all.Tie as tie
+use Rattle.taking.proofs.take_all.Statement.{statement}
+use Rattle.taking.proofs.take_all.Tie as tie
 
 abbrev Inv-loop : tie.InvT-loop
 Inv-loop t kind q k waits₀ held₀ most f₀ left₀ waits held f left =

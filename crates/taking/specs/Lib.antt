@@ -1,0 +1,1 @@
+-- What these loops do is said in the specs of `waiting`: Front, Rows, Going and Known.
