@@ -143,8 +143,8 @@ module _ {n : ℕ} (some : 1 ≤ n) (small : n ≤ mostRecords) {st : State} (h 
 
   module _ (kind : ℕ) (q : List ℕ) where
     -- the used slots, nearest first
-    abbrev inOrder : List ℕ
-    inOrder = nearestFirst (apart kind) (viewOf R) q used
+    abbrev usedFirst : List ℕ
+    usedFirst = nearestFirst (apart kind) (viewOf R) q used
 
     abbrev before : ℕ → ℕ → Bool
     before a b = nearer (apart kind) (viewOf R) q a b
@@ -156,7 +156,7 @@ module _ {n : ℕ} (some : 1 ≤ n) (small : n ≤ mostRecords) {st : State} (h 
         (λ a b u w e f.
         h .sound .well-formed .cards a b (used-within shape a u) (used-within shape b w) u w f)
 
-    slots-ascend : Ascends before inOrder
+    slots-ascend : Ascends before usedFirst
     slots-ascend =
         sortBy-ascends slots-order used
         (λ a i. usedSlots-from (viewOf R) n a i .1) (usedSlots-distinct (viewOf R) n)
@@ -172,23 +172,23 @@ module _ {n : ℕ} (some : 1 ≤ n) (small : n ≤ mostRecords) {st : State} (h 
     )
 
     -- in order they are the stored cards in order
-    pub order-same : map cardAt inOrder ≡ sortBy (closer kind q) (st .stored)
+    pub order-same : map cardAt usedFirst ≡ sortBy (closer kind q) (st .stored)
     order-same =
         ascends-same (closer-orders kind q (st .stored) (h .once))
-        (map cardAt inOrder)
+        (map cardAt usedFirst)
         (sortBy (closer kind q) (st .stored))
-        (cards-ascend inOrder slots-ascend)
+        (cards-ascend usedFirst slots-ascend)
         (stored-ascends kind q (st .stored) (st .stored) (h .once) (λ x i. i) (h .once))
         (λ x i.
-        let z = image-from cardAt x inOrder i in
+        let z = image-from cardAt x usedFirst i in
         let u = usedSlots-from (viewOf R) n (z .0) (sortBy-from before (z .0) used (z .1)) in
         sortBy-to (closer kind q) x (st .stored)
         (rw (z .2) (used-stored some small h (z .0) (u .1))))
         (λ x i.
         let z = h .stored x .1 (sortBy-from (closer kind q) x (st .stored) i) in
         let u = usedSlots-to (viewOf R) n (z .0) (z .1 .within) (z .1 .used) in
-        subst (λ (y : Newcomer). List·Memᴰ y (map cardAt inOrder)) (z .1 .same)
-        (image-to cardAt (z .0) inOrder (sortBy-to before (z .0) used u)))
+        subst (λ (y : Newcomer). List·Memᴰ y (map cardAt usedFirst)) (z .1 .same)
+        (image-to cardAt (z .0) usedFirst (sortBy-to before (z .0) used u)))
 
   module _ (kind : ℕ) (s : List ℕ) (k : ℕ) (list : List Pair)
       (e : nearestOf (st .table) kind s k list .refusal ≡ done) where
@@ -233,7 +233,7 @@ module _ {n : ℕ} (some : 1 ≤ n) (small : n ≤ mostRecords) {st : State} (h 
           usedIn-usedCount n R,
           usedSlots-length (viewOf R) n,
           sortBy-length (before kind (readingsAt s 0)) used,
-          length-map (inOrder kind (readingsAt s 0)) cardAt,
+          length-map (usedFirst kind (readingsAt s 0)) cardAt,
           ap length (order-same kind (readingsAt s 0)),
           sortBy-length (closer kind (readingsAt s 0)) (st .stored),
         ))
@@ -247,7 +247,7 @@ module _ {n : ℕ} (some : 1 ≤ n) (small : n ≤ mostRecords) {st : State} (h 
         ≡ nearestStored (st .stored) kind (readingsAt s 0) k
     unfolding nearestStored
     exactly =
-        let cs = inOrder kind (readingsAt s 0) in
+        let cs = usedFirst kind (readingsAt s 0) in
         Nearests.listed-nearest (st .table) kind s k list none sound
         ∙ rw (records-are h) (sym (map-map cardAt pairTo _ (take k cs) (λ a i. refl)))
         ∙ ap (map pairTo) (sym (take-map cardAt k cs) ∙ ap (take k) (order-same kind (readingsAt s 0)))
