@@ -16,6 +16,8 @@
 
 mod line;
 mod record;
+pub mod words;
 
-pub use line::{command, shown, Fault};
+pub use line::command;
 pub use record::{Command, Operation, RECORD};
+pub use words::{shown, Fault};
