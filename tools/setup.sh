@@ -1,5 +1,5 @@
 #!/usr/bin/env bash
-# Sees to what the repository needs: Rattle's kit (`rt`) and a Rust of 1.88 or newer, which must be there, and a C
+# Sees to what the repository needs: Rattle's kit (`rt`) and a Rust of 1.89 or newer, which must be there, and a C
 # compiler, bc and perl, which are installed as Debian's packages where they are missing.
 set -u
 if ! command -v rt >/dev/null; then
@@ -7,7 +7,7 @@ if ! command -v rt >/dev/null; then
     exit 1
 fi
 if ! command -v cargo >/dev/null; then
-    echo "cargo is not on the PATH: the comparisons need a Rust of 1.88 or newer, and Debian's is older" >&2
+    echo "cargo is not on the PATH: the comparisons need a Rust of 1.89 or newer, and Debian's is older" >&2
     exit 1
 fi
 missing=''
