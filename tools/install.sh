@@ -1,10 +1,10 @@
 #!/usr/bin/env bash
-# Installs the library for C: bash tools/install.sh PREFIX puts the header, the static and the shared library and a file
-# for pkg-config under PREFIX, or under $DESTDIR/PREFIX where a package is made of it. The library is proved and built
-# first, unless a second argument names a libplotvuga.a that was.
+# Installs the library for C and the tool for the bench: bash tools/install.sh PREFIX puts the header, the static and
+# the shared library, a file for pkg-config and the program rack under PREFIX, or under $DESTDIR/PREFIX where a package
+# is made of it. The library is proved and built first, unless a second argument names a libplotvuga.a that was.
 set -eu
 usage='usage: bash tools/install.sh PREFIX [LIBRARY]
-  PREFIX   where include/ and lib/ are, such as /usr/local; DESTDIR is put before it where that is set
+  PREFIX   where include/, lib/ and bin/ are, such as /usr/local; DESTDIR is put before it where that is set
   LIBRARY  a libplotvuga.a to install; without it, it is proved and built'
 case ${1:-} in
 -h | --help) echo "$usage"; exit 0 ;;
@@ -38,6 +38,11 @@ trap 'rm -rf "$work"' EXIT
 echo '{ global: plotvuga_*; local: *; };' >"$work/exported"
 gcc -shared -o "$work/$shared" -Wl,-soname,"$soname" -Wl,--version-script="$work/exported" -Wl,-z,defs \
     -Wl,--whole-archive "$static" -Wl,--no-whole-archive
+rack=''
+if command -v cargo >/dev/null; then
+    (cd rust && CARGO_NET_OFFLINE=true PLOTVUGA_LIB_DIR=$(dirname "$static") cargo build --release -q -p rack)
+    rack=$PWD/target/rust/release/rack
+fi
 cat >"$work/plotvuga.pc" <<END
 prefix=$prefix
 includedir=\${prefix}/include
@@ -57,6 +62,13 @@ install -m 755 "$work/$shared" "$to/lib/$shared"
 ln -sfn "$shared" "$to/lib/$soname"
 ln -sfn "$soname" "$to/lib/libplotvuga.so"
 install -m 644 "$work/plotvuga.pc" "$to/lib/pkgconfig/plotvuga.pc"
+if [ -n "$rack" ]; then
+    install -d "$to/bin"
+    install -m 755 "$rack" "$to/bin/rack"
+    rack=$to/bin/rack
+else
+    rack='no rack, the tool for the bench, since cargo is not on the PATH'
+fi
 
 cat <<END
 installed Plotvuga $version:
@@ -64,6 +76,7 @@ installed Plotvuga $version:
   $to/lib/libplotvuga.a
   $to/lib/$shared, with $soname and libplotvuga.so leading to it
   $to/lib/pkgconfig/plotvuga.pc
+  $rack
 a program in C, static:
   cc program.c -I$prefix/include $prefix/lib/libplotvuga.a -o program
 or shared:
