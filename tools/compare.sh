@@ -2,7 +2,7 @@
 # Compares the proved code with the independent model in rust/: the model's own tests, then the library's parts through
 # their C functions, then the library whole from C and from Rust, then the bench program, each over a fixed, seeded set.
 # Before that the Rust code's documentation and lints, for which no library has to be there, and in between what a
-# stranger does with the library, outside the repository.
+# stranger does with the library, outside the repository, and the tool for the bench as it is run.
 # Longer runs with a seed of one's own: rust/README.md. What crates.txt does not list yet is told and left out.
 set -u
 cd "$(dirname "$0")/.."
@@ -70,6 +70,7 @@ if built plotvuga rt staticlib plotvuga; then
     run bash tools/outside.sh
     run bash tools/stack.sh
     run in_rust cargo test --release -q -p plotvuga
+    run in_rust cargo test --release -q -p rack
     run in_rust cargo test --release -q -p histories
     run in_rust cargo run --release -q -p histories
 fi

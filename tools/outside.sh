@@ -1,7 +1,8 @@
 #!/usr/bin/env bash
 # Uses the library as a stranger would, from a folder outside the repository: it is installed there, and a first program
-# is built by the very lines that README.md gives, in C static, shared and by pkg-config, and in Rust. The library is
-# libplotvuga.a of target/staticlib, or of the directory that PLOTVUGA_LIB_DIR names. Needs a C compiler and Rust.
+# is built by the very lines that README.md gives, in C static, shared and by pkg-config, and in Rust; and the installed
+# tool for the bench is used. The library is libplotvuga.a of target/staticlib, or of the directory that
+# PLOTVUGA_LIB_DIR names. Needs a C compiler and Rust.
 set -u -o pipefail
 cd "$(dirname "$0")/.."
 repository=$PWD
@@ -80,5 +81,15 @@ says() { ! outside env PLOTVUGA_LIB_DIR="$work/none" cargo build -q 2>"$work/sai
 step "without the library" says "rt staticlib plotvuga"
 step "in Rust" prints outside cargo run -q
 step "in Rust, with what was installed" prints outside env PLOTVUGA_LIB_DIR="$PREFIX/lib" cargo run -q
+
+# The tool that was installed, in a folder of its own.
+bench() (
+    mkdir "$work/bench" && cd "$work/bench" || return 1
+    PATH=$PREFIX/bin:$PATH
+    rack new failed.table --records 64 && rack failed.table insert <"$repository/examples/night.txt" || return 1
+    rack failed.table search radius 5 readings 319 |
+        diff -u <(printf '2 cards within 5; 7 of 12 stored cards compared\n  card 18, 1 away\n  card 11, 2 away\n') -
+)
+step "the tool for the bench" bench
 echo "$passed passed, $failed failed"
 [ "$failed" -eq 0 ]
