@@ -1,5 +1,5 @@
 // Age order: a slot's key is its record's timestamp and then the slot, so keys in order are slots oldest first.
-ghost use Rattle.std.specs.Prelude.{◌≡◌, ◌≤◌, ◌<◌, ◌++◌, length, set, take, drop};
+ghost use Rattle.std.specs.Prelude.{◌≡◌, ◌≤◌, ◌<◌, length, set};
 ghost use Rattle.order.specs.Order.{in_order};
 ghost use Rattle.refusals.specs.Limits.{most_records};
 ghost use Rattle.table.specs.Record.{record_of, largest_table};
@@ -11,20 +11,19 @@ use refusals::limit::RECORDS;
 // A key is a timestamp and a slot: the timestamp counts in steps of this many.
 pub const SLOTS: u64 = 65536;
 
-// Writes the key of slot s at place m. The row is lent as a whole array, one word where a slice is two, since `gather`,
-// which calls itself, holds it at every level.
-pub fn note_key(t: &[u8], s: usize, keys: &mut [u64; RECORDS], m: usize)
-    requires { Stands t.now s × (length t.now ≤ largest_table) × (m < most_records) }
+// Writes the key of slot s at place m.
+pub fn note_key(t: &[u8], s: usize, keys: &mut [u64], m: usize)
+    requires { Stands t.now s × (length t.now ≤ largest_table) × (m < length keys.old) }
     ensures { keys.new ≡ set keys.old m (key_of (record_of t.now) s) }
 {
     keys[m] = table::timestamp_of(t, s) as u64 * SLOTS + s as u64;
 }
 
-// The first m keys in rising order: the slots in them, oldest first.
-pub fn oldest_first(keys: &mut [u64], m: usize)
-    requires { (m ≤ length keys.old) × (m ≤ most_records) }
-    ensures { keys.new ≡ in_order (take m keys.old) ++ drop m keys.old }
+// The keys in rising order: the slots in them, oldest first.
+pub fn oldest_first(keys: &mut [u64])
+    requires { length keys.old ≤ most_records }
+    ensures { keys.new ≡ in_order keys.old }
 {
     let mut room = [0u64; RECORDS];
-    order::sort(&mut keys[..m], &mut room);
+    order::sort(keys, &mut room);
 }

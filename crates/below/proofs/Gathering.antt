@@ -44,21 +44,25 @@ module _ (R : ℕ → Record) where
         e,
       )
 
+  pub gathered_length : (keys : List ℕ) (m : ℕ) (ss : List ℕ) → length (gathered R keys m ss).keys ≡ length keys
+  unfolding gathered
+  gathered_length keys m ss = length-sets keys m (map (key_of R) ss)
+
   pub gathered_at : (keys : List ℕ) (m : ℕ) (ss : List ℕ) → (gathered R keys m ss).at ≡ m + length ss
   unfolding gathered
   gathered_at keys m ss = refl
 
   -- the whole row of keys that is written
-  pub gathered_whole : (keys ss row : List ℕ) (m : ℕ) → length ss ≤ length row
+  pub gathered_whole : (keys ss row : List ℕ) (m : ℕ) → length ss ≤ length keys
       → ◌≡◌ {A = Gathered} (record { keys = row; at = m }) (gathered R keys 0 ss)
-      → (m ≡ length ss) × (take m row ≡ map (key_of R) ss)
+      → (m ≡ length ss) × (length row ≡ length keys) × (take m row ≡ map (key_of R) ss)
   unfolding gathered
   gathered_whole keys ss row m h e =
       let count : m ≡ length ss = omega (arith, ap (λ (g : Gathered). g.at) e) in
       let row_is : row ≡ sets keys 0 (map (key_of R) ss) = ap (λ (g : Gathered). g.keys) e in
-      let long : length row ≡ length keys = ap length row_is ∙ length-sets keys 0 (map (key_of R) ss) in
-      let split = sets-eq (map (key_of R) ss) keys 0 (omega (arith, length-map ss (key_of R), long, h)) in (
+      let split = sets-eq (map (key_of R) ss) keys 0 (omega (arith, length-map ss (key_of R))) in (
         count,
+        ap length row_is ∙ length-sets keys 0 (map (key_of R) ss),
         ap (take m) (row_is ∙ split)
             ∙ take_at (map (key_of R) ss) (drop (0 + length (map (key_of R) ss)) keys) m
             (length-map ss (key_of R) ∙ sym count),

@@ -6,15 +6,12 @@ ghost use Rattle.table.specs.Stands.{Stands, Walkable};
 ghost use Rattle.below.specs.Loop.Gather.{Gathered, slots_under, keys_under, gathered};
 
 use age::{note_key, oldest_first};
-use refusals::limit::RECORDS;
 
 // Writes the keys of slot a and of all below it from place m on, and returns the place after the last; `left` is the
 // depth left. At each turn the keys of a and of what stands at or below its first k children are written.
-// A chain goes a level deeper with each record, and what is the same at every level should not cost every level: so the
-// row is lent as a whole array, one word where a slice is two.
-fn gather(t: &[u8], a: usize, keys: &mut [u64; RECORDS], m: usize, left: usize) -> usize
+fn gather(t: &[u8], a: usize, keys: &mut [u64], m: usize, left: usize) -> usize
     requires { Walkable t.now × Stands t.now a × (length t.now ≤ largest_table)
-        × (m + length (slots_under (record_of t.now) left a) ≤ most_records) }
+        × (m + length (slots_under (record_of t.now) left a) ≤ length keys.old) }
     ensures { ◌≡◌ {A = Gathered} (record { keys = keys.exit.now; at = result })
         (gathered (record_of t.now) keys.entry.now m (slots_under (record_of t.now) left a)) }
 {
@@ -22,10 +19,10 @@ fn gather(t: &[u8], a: usize, keys: &mut [u64; RECORDS], m: usize, left: usize) 
         return m;
     }
     note_key(t, a, keys, m);
+    let n = table::children_of(t, a);
     let mut at = m + 1;
     let mut k = 0;
-    // Read anew at each turn: a number kept over the call below would cost every level its place.
-    while k < table::children_of(t, a) {
+    while k < n {
         let c = table::slot_of(t, a, k) as usize;
         at = gather(t, c, keys, at, left - 1);
         k += 1;
@@ -35,13 +32,13 @@ fn gather(t: &[u8], a: usize, keys: &mut [u64; RECORDS], m: usize, left: usize) 
 
 // The keys of slot v and of all below it, in age order: v's own comes first, since all below it are younger. Returns
 // how many.
-pub fn in_age_order(t: &[u8], v: usize, used: usize, keys: &mut [u64; RECORDS]) -> usize
+pub fn in_age_order(t: &[u8], v: usize, used: usize, keys: &mut [u64]) -> usize
     requires { Walkable t.now × Stands t.now v × (length t.now ≤ largest_table)
-        × (length (slots_under (record_of t.now) used v) ≤ most_records) }
+        × (length (slots_under (record_of t.now) used v) ≤ length keys.old) × (length keys.old ≤ most_records) }
     ensures { (result ≡ length (slots_under (record_of t.now) used v))
         × (take result keys.new ≡ keys_under (record_of t.now) used v) }
 {
     let m = gather(t, v, keys, 0, used);
-    oldest_first(keys, m);
+    oldest_first(&mut keys[..m]);
     m
 }

@@ -1,7 +1,7 @@
 -- The descent's two loops: what holds at each turn of the walk (`Walking`) and of the scan (`Scanning`), and what a
 -- turn of the walk comes to in the bytes (`turn`). The key idea: a raised radius changes neither children nor
--- signatures, the newcomer's own among them, so what is left of the walk is the definition's at the present slot, with
--- the radii raised so far. Assumes nothing.
+-- signatures, so what is left of the walk is the definition's at the present slot, with the radii raised so far.
+-- Assumes nothing.
 use Prim.Native.Nat.{ℕ, suc, ◌+◌, ◌*◌, ◌-◌, ◌≤◌, ◌<◌}
 use mathlib.Core.Bool.{Bool, true, false, ◌&&◌, ◌||◌, false≢true}
 use mathlib.Core.Path.{◌≡◌, refl, sym, ap, ap₂, ◌∙◌}
@@ -15,6 +15,7 @@ use Rattle.places.specs.Choice.{pick}
 use Rattle.number.specs.Frame.{Bytes}
 use Rattle.refusals.specs.Limits.{most_children}
 use Rattle.distance.specs.Laws.{farthest}
+use Rattle.distance.specs.Signature.{Fit}
 use Rattle.distance.specs.Kind.{apart, apart_distance}
 use Rattle.table.specs.Record.{Record, record_of, slot, children}
 use Rattle.table.specs.Table.{records_of, at}
@@ -39,13 +40,11 @@ farther = farthest + 1
 
 -- ---- what holds at each turn
 
--- the walk of the newcomer in slot s, of the signature x, from the root has come to slot a, at the distance `away`
-pub record Walking (l₀ : List ℕ) (s kind : ℕ) (x : List ℕ) (arity root depth : ℕ) (l : List ℕ) (a away left count : ℕ)
+-- the walk of x from the root has come to slot a, at the distance `away`
+pub record Walking (l₀ : List ℕ) (kind : ℕ) (x : List ℕ) (arity root depth : ℕ) (l : List ℕ) (a away left count : ℕ)
     : Type 0 where
   pub walkable : Walkable l
   pub same_length : length l ≡ length l₀
-  pub newcomer_stands : Stands l s
-  pub newcomer : (record_of l s).readings ≡ x
   pub here : Stands l a
   pub some : 1 ≤ left
   pub less : left ≤ depth
@@ -56,33 +55,28 @@ pub record Walking (l₀ : List ℕ) (s kind : ℕ) (x : List ℕ) (arity root d
       descended (apart kind) x arity (records_of l) left a count
       ≡ descended (apart kind) x arity (records_of l₀) depth root 1
 
--- the distance of the record in slot c to the newcomer in slot s
-abbrev pub apart_from : ℕ → ℕ → List ℕ → ℕ → ℕ
-apart_from s kind l c = apart kind (record_of l c).readings (record_of l s).readings
-
--- of the first k children of slot a, `best` is the nearest to the newcomer in slot s, at the distance e
-pub record Scanning (s kind : ℕ) (l : List ℕ) (a n best e k : ℕ) : Type 0 where
+-- of the first k children of slot a, `best` is the nearest, at the distance e
+pub record Scanning (kind : ℕ) (x : List ℕ) (l : List ℕ) (a n best e k : ℕ) : Type 0 where
   pub walkable : Walkable l
-  pub newcomer_stands : Stands l s
   pub here : Stands l a
   pub count_is : n ≡ (record_of l a).count
   pub passed : k ≤ n
   pub stands : Stands l best
   pub small : e ≤ farther
   pub rest :
-      scanned (apart_from s kind l) best e (drop k (children (record_of l a)))
-      ≡ scanned (apart_from s kind l) a farther (children (record_of l a))
+      scanned (λ c. apart kind (record_of l c).readings x) best e (drop k (children (record_of l a)))
+      ≡ scanned (λ c. apart kind (record_of l c).readings x) a farther (children (record_of l a))
 
 -- ---- the scan
 
-module _ {s kind : ℕ} {l : List ℕ} {a n best e k : ℕ} (scan : Scanning s kind l a n best e k) where
+module _ {kind : ℕ} {x l : List ℕ} {a n best e k : ℕ} (s : Scanning kind x l a n best e k) where
   fits : (record_of l a).count ≤ length (record_of l a).slots
-  fits = omega (arith, scan.walkable.few a scan.here, slots_length l a)
+  fits = omega (arith, s.walkable.few a s.here, slots_length l a)
 
   pub scanning_child : k < n → (k < most_children) × Stands l (slot (record_of l a) k)
   scanning_child h = (
-    omega (arith, scan.walkable.few a scan.here, scan.count_is, h),
-    scan.walkable.stand a k scan.here (omega (arith, scan.count_is, h)),
+    omega (arith, s.walkable.few a s.here, s.count_is, h),
+    s.walkable.stand a k s.here (omega (arith, s.count_is, h)),
   )
 
   -- a turn: child k at the distance f is nearer, or it is not
@@ -90,37 +84,36 @@ module _ {s kind : ℕ} {l : List ℕ} {a n best e k : ℕ} (scan : Scanning s k
       (c f best' e' : ℕ)
       → k < n
       → c ≡ slot (record_of l a) k
-      → f ≡ apart_from s kind l c
+      → f ≡ apart kind (record_of l c).readings x
       → f ≤ farthest
       → best' ≡ pick (ltb f e) c best
       → e' ≡ pick (ltb f e) f e
-      → Scanning s kind l a n best' e' (k + 1)
+      → Scanning kind x l a n best' e' (k + 1)
   scanning_more c f best' e' h ec ef small eb ee =
-      let g = apart_from s kind l in
+      let g : ℕ → ℕ = λ i. apart kind (record_of l i).readings x in
       let children-count = children_length (record_of l a) fits in
-      let inside : k < (record_of l a).count = omega (arith, scan.count_is, h) in
+      let inside : k < (record_of l a).count = omega (arith, s.count_is, h) in
       let at-k : get_or (children (record_of l a)) k 0 ≡ c = children_slot (record_of l a) fits k inside ∙ sym ec in
       record {
-        walkable = scan.walkable;
-        newcomer_stands = scan.newcomer_stands;
-        here = scan.here;
-        count_is = scan.count_is;
+        walkable = s.walkable;
+        here = s.here;
+        count_is = s.count_is;
         passed = omega arith;
         stands = rw eb (one_stands (ltb f e));
         small = rw ee (bounded (ltb f e));
         rest =
             rw (eb, ee, ef)
             (sym (rw at-k at (scanned_more g best e k (children (record_of l a)) (omega (arith, children-count))))
-            ∙ scan.rest);
+            ∙ s.rest);
       }
     where
       one_stands : (b : Bool) → Stands l (pick b c best)
       one_stands true = rw ec (scanning_child h).1
-      one_stands false = scan.stands
+      one_stands false = s.stands
 
       bounded : (b : Bool) → pick b f e ≤ farther
       bounded true = omega arith
-      bounded false = scan.small
+      bounded false = s.small
 
 -- ---- a turn of the walk
 
@@ -128,8 +121,8 @@ or_false : (p q : Bool) → p || q ≡ false → (p ≡ false) × (q ≡ false)
 or_false true q e = absurd (false≢true (sym e))
 or_false false q e = (refl, e)
 
-module _ {l₀ x l : List ℕ} {s kind arity root depth a away left count : ℕ}
-    (w : Walking l₀ s kind x arity root depth l a away left count)
+module _ {l₀ x l : List ℕ} {kind arity root depth a away left count : ℕ}
+    (w : Walking l₀ kind x arity root depth l a away left count)
     {m : List ℕ} (b : Became l a (raised away (record_of l a)) m) where
   abbrev d : List ℕ → List ℕ → ℕ
   d = apart kind
@@ -138,24 +131,20 @@ module _ {l₀ x l : List ℕ} {s kind arity root depth a away left count : ℕ}
   rows = records_of l
 
   -- no record has changed but for a radius
-  still : (c : ℕ) → Still (record_of l c) (record_of m c)
-  still c = elim (ℕ_discrete c a) [
+  still : (s : ℕ) → Still (record_of l s) (record_of m s)
+  still s = elim (ℕ_discrete s a) [
     | yes e ↦
-        let q : record_of m c ≡ raised away (record_of l c) =
+        let q : record_of m s ≡ raised away (record_of l s) =
         ap (record_of m) e ∙ b.here ∙ ap (λ (i : ℕ). raised away (record_of l i)) (sym e) in
-        rw q (still_raised (record_of l c) (record_of l c) away (still_self (record_of l c)))
-    | no ne ↦ rw (b.elsewhere c ne) (still_self (record_of l c))
+        rw q (still_raised (record_of l s) (record_of l s) away (still_self (record_of l s)))
+    | no ne ↦ rw (b.elsewhere s ne) (still_self (record_of l s))
   ]
 
   raised_walkable : Walkable m
-  raised_walkable = walkable_same b.same_length (λ c. (still c).count) (λ c. (still c).slots) w.walkable
+  raised_walkable = walkable_same b.same_length (λ s. (still s).count) (λ s. (still s).slots) w.walkable
 
   pub still_here : Stands m a
   still_here = stands_same l m b.same_length a w.here
-
-  -- the newcomer stands in its slot as it did
-  still_newcomer : (record_of m s).readings ≡ x
-  still_newcomer = (still s).kept.readings ∙ w.newcomer
 
   rows_lifted : records_of m ≡ lifted d x arity rows a
   rows_lifted =
@@ -175,15 +164,14 @@ module _ {l₀ x l : List ℕ} {s kind arity root depth a away left count : ℕ}
       ap₂ take (still a).count (still a).slots
       ∙ ap children (sym (records_at l w.walkable.whole a))
 
-  far_same : apart_from s kind m ≡ away' d (view_of (at rows)) x
-  far_same i c = apart kind (row_readings c i) (still_newcomer i)
+  far_same : (λ c. apart kind (record_of m c).readings x) ≡ away' d (view_of (at rows)) x
+  far_same i c = apart kind (row_readings c i) x
 
   -- the scan begins
-  pub scanning : (n : ℕ) → n ≡ (record_of m a).count → Scanning s kind m a n a farther 0
+  pub scanning : (n : ℕ) → n ≡ (record_of m a).count → Scanning kind x m a n a farther 0
   scanning n e =
       record {
         walkable = raised_walkable;
-        newcomer_stands = stands_same l m b.same_length s w.newcomer_stands;
         here = still_here;
         count_is = e;
         passed = omega arith;
@@ -196,7 +184,7 @@ module _ {l₀ x l : List ℕ} {s kind arity root depth a away left count : ℕ}
   few = raised_walkable.few a still_here
 
   -- the scan is over
-  module _ (bytes : Bytes m) {n best e k : ℕ} (scan : Scanning s kind m a n best e k) (over : n ≤ k) where
+  module _ (bytes : Bytes m) (fit : Fit x) {n best e k : ℕ} (s : Scanning kind x m a n best e k) (over : n ≤ k) where
     abbrev pub test : Bool
     test = (eqb n 0 || eqb (left - 1) 0) || (ltb away e && ltb n arity)
 
@@ -204,25 +192,19 @@ module _ {l₀ x l : List ℕ} {s kind arity root depth a away left count : ℕ}
     count_fits = omega (arith, few, slots_length m a)
 
     count_n : n ≡ length (children (record_of m a))
-    count_n = scan.count_is ∙ sym (children_length (record_of m a) count_fits)
-
-    -- no record is farther from x than the farthest
-    farthest_at : (c : ℕ) → apart kind (record_of m c).readings x ≤ farthest
-    farthest_at c =
-        let fit = (record_fits m c bytes).readings in
-        let fit-x = rw still_newcomer at (record_fits m s bytes).readings in
-        (apart_distance kind).at_most (record_of m c).readings x fit fit-x
+    count_n = s.count_is ∙ sym (children_length (record_of m a) count_fits)
 
     found :
         (c : ℕ) (cs : List ℕ)
         → children (at rows a) ≡ c ∷ cs
         → near best e ≡ nearest_of d (view_of (at rows)) x c cs
     found c cs h =
+        let far = (apart_distance kind).at_most (record_of m c).readings x (record_fits m c bytes).readings fit in
         let small : away' d (view_of (at rows)) x c < farther =
-        omega (arith, farthest_at c, ap (λ (r : List ℕ). d r x) (row_readings c)) in
-        let g = apart_from s kind m in
+        omega (arith, far, ap (λ (r : List ℕ). d r x) (row_readings c)) in
+        let g : ℕ → ℕ = λ i. apart kind (record_of m i).readings x in
         sym (scanned_end g best e k (children (record_of m a)) (omega (arith, count_n)))
-        ∙ scan.rest
+        ∙ s.rest
         ∙ ap₂ (λ (g : ℕ → ℕ) (is : List ℕ). scanned g a farther is) far_same (row_children ∙ h)
         ∙ scanned_nearest d (view_of (at rows)) x a farther c cs small
 
@@ -263,7 +245,7 @@ module _ {l₀ x l : List ℕ} {s kind arity root depth a away left count : ℕ}
         ∙ ap (λ (i : ℕ). away' d (view_of (at rows)) x i) (sym (ap (λ (p : Near). p.slot) f))
         ∙ ap (λ (r : List ℕ). d r x) (sym (row_readings best))
 
-    pub walk_on : test ≡ false → Walking l₀ s kind x arity root depth m best e (left - 1) (count + n)
+    pub walk_on : test ≡ false → Walking l₀ kind x arity root depth m best e (left - 1) (count + n)
     walk_on y =
         let y1 = (or_false (eqb n 0 || eqb (left - 1) 0) (ltb away e && ltb n arity) y).0 in
         let y2 = or_false (eqb n 0) (eqb (left - 1) 0) y1 in
@@ -271,15 +253,15 @@ module _ {l₀ x l : List ℕ} {s kind arity root depth a away left count : ℕ}
         let more : left - 1 ≡ 0 → ⊥ = eqb-false (left - 1) 0 y2.1 in
         let far = best_away (children (at rows a)) refl some in
         record {
-          walkable = scan.walkable;
+          walkable = s.walkable;
           same_length = b.same_length ∙ w.same_length;
-          newcomer_stands = scan.newcomer_stands;
-          newcomer = still_newcomer;
-          here = scan.stands;
+          here = s.stands;
           some = omega arith;
           less = omega (arith, w.less);
-          small = omega (arith, w.small, w.some, few, scan.count_is);
+          small = omega (arith, w.small, w.some, few, s.count_is);
           away_is = far;
-          near = rw far (farthest_at best);
+          near =
+              let fits = (record_fits m best bytes).readings in
+              rw far ((apart_distance kind).at_most (record_of m best).readings x fits fit);
           rest = sym (turn ∙ ap (λ (t : Bool). pick t ended onward) y) ∙ w.rest;
         }

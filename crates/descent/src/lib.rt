@@ -2,11 +2,12 @@
 ghost use Rattle.std.specs.Prelude.{◌≡◌, ◌+◌, ◌*◌, ◌≤◌};
 ghost use Rattle.refusals.specs.Limits.{most_records, most_children};
 ghost use Rattle.table.specs.Stands.{Stands, Walkable};
+ghost use Rattle.distance.specs.Signature.{Fit};
 ghost use Rattle.distance.specs.Kind.{apart};
-ghost use Rattle.table.specs.Record.{record_of};
 ghost use Rattle.table.specs.Table.{records_of};
 ghost use Rattle.descent.specs.Descent.{descent, descended};
 
+use distance::Signature;
 use newcomer::raise;
 
 // Above every distance, so that the first child is always nearer.
@@ -19,18 +20,23 @@ pub struct Attach {
     pub count: u32,
 }
 
-// The walk of the newcomer whose signature stands in slot s, from the root, at most `depth` records deep. At each turn
-// what is left of it leads from slot a, at the distance `away`, to the same end; inside, `best` is the nearest of the
-// first k children, the oldest if equally near.
-pub fn descend(t: &mut [u8], s: usize, kind: u8, arity: usize, root: usize, depth: usize) -> Attach
-    requires { Walkable t.old × Stands t.old root × Stands t.old s × (1 ≤ depth) × (depth ≤ most_records) }
+// The walk from the root, at most `depth` records deep. At each turn what is left of it leads from slot a, at the
+// distance `away`, to the same end; inside, `best` is the nearest of the first k children, the oldest if equally near.
+pub fn descend(
+    t: &mut [u8],
+    kind: u8,
+    x: Signature,
+    arity: usize,
+    root: usize,
+    depth: usize,
+) -> Attach
+    requires { Walkable t.old × Stands t.old root × Fit x.readings × (1 ≤ depth) × (depth ≤ most_records) }
     ensures { (descent (records_of t.new) result.slot result.count
-        ≡ descended (apart kind) (record_of t.old s).readings arity
-        (records_of t.old) depth root 1)
+        ≡ descended (apart kind) x.readings arity (records_of t.old) depth root 1)
         × (result.count ≤ 1 + most_children * depth) }
 {
     let mut a = root;
-    let mut away = table::between(t, root, s, kind);
+    let mut away = table::away_from(t, root, kind, x);
     let mut left = depth;
     let mut count: u32 = 1;
     let slot = loop {
@@ -43,7 +49,7 @@ pub fn descend(t: &mut [u8], s: usize, kind: u8, arity: usize, root: usize, dept
         let mut k = 0;
         while k < n {
             let c = table::child_of(t, a, k);
-            let e = table::between(t, c, s, kind);
+            let e = table::away_from(t, c, kind, x);
             if e < near {
                 best = c;
                 near = e;

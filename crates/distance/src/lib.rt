@@ -40,21 +40,20 @@ fn wide64(x: u16) -> u64
 }
 
 // How far x is above y, 0 if it is not.
-fn above(x: u16, y: u16) -> u16
+fn above(x: u16, y: u16) -> u32
     ensures { (result ≡ x - y) × (result ≤ x) }
 {
-    if y < x { x - y } else { 0 }
+    if y < x { wide32(x - y) } else { 0 }
 }
 
-// The absolute difference of two readings: one part is 0, so sixteen bits hold the sum of both. No branch, and widened
-// once: so it compiles to eight readings at a time.
+// The absolute difference of two readings. One part is 0, and the sum of both compiles to eight readings at a time.
 pub fn reading_gap(x: u16, y: u16) -> u32
     ensures { (result ≡ gap x y) × (result ≤ 65535) }
 {
-    wide32(above(x, y) + above(y, x))
+    above(x, y) + above(y, x)
 }
 
-// Kind 1, by value. At each turn the sum is that of the first i differences.
+// Kind 1. At each turn the sum is that of the first i differences.
 pub fn readings_apart(a: Signature, b: Signature) -> u32
     ensures { (result ≡ readings_apart a.readings b.readings) × (result ≤ farthest) }
 {
@@ -84,7 +83,7 @@ pub fn bits_apart(x: u64, y: u64) -> u32
     u64::count_ones(x ^ y)
 }
 
-// Kind 2, by value. At each turn the sum is that of the first k words.
+// Kind 2. At each turn the sum is that of the first k words.
 pub fn masks_apart(a: Signature, b: Signature) -> u32
     ensures { (result ≡ masks_apart a.readings b.readings) × (result ≤ 256) }
 {
@@ -102,7 +101,7 @@ pub fn known_kind(kind: u8) -> bool
     (kind == 1) | (kind == 2)
 }
 
-// The distance of the kind, of two signatures passed by value. The crate `compare` has it where they stand.
+// The distance of the kind.
 pub fn apart(kind: u8, a: Signature, b: Signature) -> u32
     ensures { (result ≡ apart kind a.readings b.readings) × (result ≤ farthest) }
 {

@@ -79,18 +79,18 @@ module _ {l : List ℕ} {kind arity s root depth : ℕ} (ok : Hangable l kind ar
   pub slot_few : s < most_records
   slot_few = few_slots s ok.slot_stands
 
-  -- the walk as the code takes it, of the signature that stands in the newcomer's slot
+  -- the walk as the code takes it, of the signature y that it has read
   pub walk_over :
-      {m : List ℕ} {on count : ℕ}
+      {m : List ℕ} {on count : ℕ} (y : List ℕ)
       → length m ≡ length l
-      → descent (records_of m) on count ≡ descended (apart kind) (record_of l s).readings arity rows depth root 1
+      → y ≡ (record_of l s).readings
+      → descent (records_of m) on count ≡ descended (apart kind) y arity rows depth root 1
       → Walked l kind arity s root depth m on count
-  walk_over same walked =
-      let row : (record_of l s).readings ≡ x =
-      ap (λ (r : Record). r.readings) (sym (records_at l ok.walkable.whole s)) in
+  walk_over y same e walked =
+      let read : y ≡ x = e ∙ ap (λ (r : Record). r.readings) (sym (records_at l ok.walkable.whole s)) in
       record {
         same_length = same;
-        walk = walked ∙ ap (λ (z : List ℕ). descended (apart kind) z arity rows depth root 1) row;
+        walk = walked ∙ ap (λ (z : List ℕ). descended (apart kind) z arity rows depth root 1) read;
       }
 
   module _ {m : List ℕ} {on count : ℕ} (over : Walked l kind arity s root depth m on count) where

@@ -29,7 +29,8 @@ pub fn hang(
     ensures { (leaves t.new result ≡ hung_in t.old kind arity s root depth timestamp)
         × (result ≤ 1 + most_children * depth) }
 {
-    let host = descend(t, s, kind, arity as usize, root, depth);
+    let x = table::signature_of(t, s);
+    let host = descend(t, kind, x, arity as usize, root, depth);
     adopt(t, host.slot, s);
     seat(t, s, timestamp, host.slot as u16);
     host.count

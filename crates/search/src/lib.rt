@@ -10,9 +10,9 @@ ghost use Rattle.search.specs.Search.{outcome, refusal_of, listing_of, search_of
 
 use admission::Admitted;
 use admission::query::{known_query, other_kind};
-use refusals::limit::RECORDS;
+use distance::Signature;
 use refusals::{ARGUMENT, DONE, KIND, SHORT};
-use walk::{COUNT, FOUND};
+use walk::Reached;
 
 // "No bound on time": above every timestamp that four bytes hold.
 const NO_BOUND: u64 = 4294967296;
@@ -50,7 +50,7 @@ fn refusal_of(lent: Admitted, kind: u8, signature: &[u8], room: usize) -> u8
 fn accepted(
     t: &[u8],
     kind: u8,
-    q: &[u8],
+    q: Signature,
     radius: u64,
     list: &mut [u32],
     used: usize,
@@ -69,14 +69,13 @@ fn accepted(
             found: 0,
         };
     }
-    let mut away = [0u32; RECORDS];
-    away[root] = table::away_from(t, root, kind, q);
-    let mut numbers = [kind as u64, radius, 0, 1];
-    walk::visit(t, q, list, &mut away, &mut numbers, root, NO_BOUND, used);
+    let away = steps::away_from(t, kind, q, root);
+    let start = Reached { found: 0, count: 1 };
+    let r = walk::walk(t, kind, q, radius, list, root, away, NO_BOUND, start, used);
     Found {
         refusal: DONE,
-        count: numbers[COUNT] as u32,
-        found: numbers[FOUND] as u32,
+        count: r.count as u32,
+        found: r.found as u32,
     }
 }
 
@@ -101,14 +100,7 @@ pub fn search(t: &[u8], kind: u8, signature: &[u8], radius: u32, list: &mut [u32
     if refusal != DONE {
         return refused(refusal);
     }
+    let q = distance::signature_at(signature, 0);
     let found = lent.found;
-    accepted(
-        t,
-        kind,
-        signature,
-        radius as u64,
-        list,
-        found.used,
-        found.root,
-    )
+    accepted(t, kind, q, radius as u64, list, found.used, found.root)
 }

@@ -119,13 +119,14 @@ module _ (n : ℕ) (R : ℕ → Record) (x : ℕ) where
 
   -- the climb of a used record, from what is read of it
   pub record_used :
-      (kind t from : ℕ)
+      (kind : ℕ) (q : List ℕ) (t from : ℕ)
       → ((R x).card ≡ 0 → ⊥)
       → kind ≡ (R x).kind
+      → q ≡ (R x).readings
       → t ≡ (R x).timestamp
       → from ≡ (R x).parent
-      → climb R kind (R x).readings t n from ≡ record_passes n R x
+      → climb R kind q t n from ≡ record_passes n R x
   unfolding climb_from
-  record_used kind t from ne its-kind its-time its-parent =
-      (λ i. climb R (its-kind i) (R x).readings (its-time i) n (its-parent i))
+  record_used kind q t from ne its-kind its-readings its-time its-parent =
+      (λ i. climb R (its-kind i) (its-readings i) (its-time i) n (its-parent i))
       ∙ sym (rw (le-leb 1 (R x).card (omega arith)))

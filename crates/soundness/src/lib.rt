@@ -11,34 +11,31 @@ ghost use Rattle.soundness.specs.Soundness.{check_of};
 ghost use Rattle.soundness.specs.Climb.{sibling_passes, siblings_pass, passes, climb, record_passes, route};
 ghost use Rattle.soundness.specs.HoldsCard.{FormedTable, HoldsCard, CardOrNone};
 
+use distance::Signature;
 use refusals::{DONE, LOOSE};
 use table::{NO_SLOT, RECORD};
 
 // If c is older than x, is x no farther from b than from c? From b it is `far`, so b itself costs no second distance.
-fn sibling_ok(t: &[u8], kind: u8, x: usize, time: u32, far: u32, b: usize, c: usize) -> bool
-    requires { Stands t.now x
-        × Stands t.now c
-        × (far ≡ apart kind (record_of t.now x).readings (record_of t.now b).readings) }
-    ensures { result
-        ≡ sibling_passes (record_of t.now) kind (record_of t.now x).readings time b c }
+fn sibling_ok(t: &[u8], kind: u8, x: Signature, time: u32, far: u32, b: usize, c: usize) -> bool
+    requires { Stands t.now c
+        × (far ≡ apart kind x.readings (record_of t.now b).readings) }
+    ensures { result ≡ sibling_passes (record_of t.now) kind x.readings time b c }
 {
     if c == b {
         true
     } else if table::timestamp_of(t, c) < time {
-        far <= table::between(t, x, c, kind)
+        far <= table::away_from(t, c, kind, x)
     } else {
         true
     }
 }
 
 // Is x no farther from b than from any child of p that is older than x? The first i children are looked at.
-fn siblings_ok(t: &[u8], kind: u8, x: usize, time: u32, far: u32, b: usize, p: usize) -> bool
+fn siblings_ok(t: &[u8], kind: u8, x: Signature, time: u32, far: u32, b: usize, p: usize) -> bool
     requires { FormedTable t.now
-        × Stands t.now x
         × HoldsCard t.now p
-        × (far ≡ apart kind (record_of t.now x).readings (record_of t.now b).readings) }
-    ensures { result
-        ≡ siblings_pass (record_of t.now) kind (record_of t.now x).readings time b p }
+        × (far ≡ apart kind x.readings (record_of t.now b).readings) }
+    ensures { result ≡ siblings_pass (record_of t.now) kind x.readings time b p }
 {
     let count = table::count_of(t, p) as usize;
     for i in 0..count {
@@ -51,11 +48,11 @@ fn siblings_ok(t: &[u8], kind: u8, x: usize, time: u32, far: u32, b: usize, p: u
 }
 
 // What soundness asks of x and a record b above it: the radius of b, and the siblings of b unless it is the root.
-fn above_ok(t: &[u8], kind: u8, x: usize, time: u32, b: usize) -> bool
-    requires { FormedTable t.now × Stands t.now x × HoldsCard t.now b }
-    ensures { result ≡ passes (record_of t.now) kind (record_of t.now x).readings time b }
+fn above_ok(t: &[u8], kind: u8, x: Signature, time: u32, b: usize) -> bool
+    requires { FormedTable t.now × HoldsCard t.now b }
+    ensures { result ≡ passes (record_of t.now) kind x.readings time b }
 {
-    let far = table::between(t, x, b, kind);
+    let far = table::away_from(t, b, kind, x);
     if far <= table::radius_of(t, b) {
         let p = table::parent_of(t, b);
         if p == NO_SLOT {
@@ -69,10 +66,9 @@ fn above_ok(t: &[u8], kind: u8, x: usize, time: u32, b: usize) -> bool
 }
 
 // The climb from b to the root. No way up has more steps than the table has records, so the levels never run out.
-fn climb_ok(t: &[u8], kind: u8, x: usize, time: u32, from: u16, levels: usize) -> bool
-    requires { FormedTable t.now × Stands t.now x × CardOrNone t.now from }
-    ensures { result
-        ≡ climb (record_of t.now) kind (record_of t.now x).readings time levels from }
+fn climb_ok(t: &[u8], kind: u8, x: Signature, time: u32, from: u16, levels: usize) -> bool
+    requires { FormedTable t.now × CardOrNone t.now from }
+    ensures { result ≡ climb (record_of t.now) kind x.readings time levels from }
 {
     let mut b = from;
     let mut left = levels;
@@ -90,8 +86,8 @@ fn climb_ok(t: &[u8], kind: u8, x: usize, time: u32, from: u16, levels: usize) -
     true
 }
 
-// The climb from the record in slot x, if it is used. Its timestamp is read once, and its signature is compared where
-// it stands; all kinds are equal, so its own is the table's.
+// The climb from the record in slot x, if it is used. Its signature is read once; all kinds are equal, so its own is
+// the table's.
 fn record_ok(t: &[u8], x: usize) -> bool
     requires { FormedTable t.now × (x < records_in t.now) }
     ensures { result ≡ record_passes (records_in t.now) (record_of t.now) x }
@@ -100,9 +96,10 @@ fn record_ok(t: &[u8], x: usize) -> bool
         true
     } else {
         let kind = table::kind_of(t, x);
+        let signature = table::signature_of(t, x);
         let time = table::timestamp_of(t, x);
         let from = table::parent_of(t, x);
-        climb_ok(t, kind, x, time, from, t.len() / RECORD)
+        climb_ok(t, kind, signature, time, from, t.len() / RECORD)
     }
 }
 

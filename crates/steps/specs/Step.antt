@@ -1,7 +1,7 @@
 -- "Visiting a with bound t": what is asked, and the paper's steps 1 and 2 of one record.
 use Rattle.std.specs.Prelude.{ℕ, ◌+◌, Bool, ◌&&◌, List, [], ◌∷◌, leb, ltb}
 use Rattle.distance.specs.Kind.{apart}
-use Rattle.distance.specs.Signature.{readings_at}
+use Rattle.distance.specs.declared.Signature.{Signature}
 use Rattle.table.specs.Record.{Record, record_of}
 use Rattle.tree.specs.Slots.{keep}
 
@@ -17,9 +17,9 @@ pub record Query : Type 0 where
 abbrev pub asked : (ℕ → Record) → ℕ → List ℕ → ℕ → Query
 asked R kind q r = record { records = R; kind = kind; readings = q; radius = r }
 
--- of the records that the bytes l hold, by the signature that starts the bytes q
-abbrev pub query : List ℕ → ℕ → List ℕ → ℕ → Query
-query l kind q r = asked (record_of l) kind (readings_at q 0) r
+-- of the records that the bytes l hold
+abbrev pub query : List ℕ → ℕ → Signature → ℕ → Query
+query l kind q r = asked (record_of l) kind q.readings r
 
 -- the distance of slot a's record to the query
 abbrev pub away_from : (ℕ → Record) → ℕ → List ℕ → ℕ → ℕ

@@ -1,15 +1,17 @@
-// The steps of "visiting a with bound t" (001, Algorithm 2): what is asked of one record, each a function of its own.
-// What is asked of the children of one is in the crate `siblings`.
-ghost use Rattle.std.specs.Prelude.{◌≡◌, ◌+◌, ◌^◌, ◌≤◌, ◌<◌, min, length};
+// The steps of "visiting a with bound t" (001, Algorithm 2), each a function of its own: what is asked of one record,
+// and of the children of one.
+ghost use Rattle.std.specs.Prelude.{◌≡◌, List, ℕ, ◌+◌, ◌^◌, ◌≤◌, ◌<◌, min, length, get_or};
 ghost use Rattle.std.proofs.lemmas.List.Edits.{sets};
 ghost use Rattle.distance.specs.Laws.{farthest};
-ghost use Rattle.distance.specs.Signature.{readings_at};
-ghost use Rattle.refusals.specs.Limits.{signature_length};
+ghost use Rattle.refusals.specs.Limits.{most_children};
 ghost use Rattle.table.specs.Record.{record_of};
-ghost use Rattle.table.specs.Stands.{Stands};
-ghost use Rattle.steps.specs.Step.{away_from, is_covered, is_entered, card_within};
+ghost use Rattle.table.specs.Stands.{Stands, Walkable};
+ghost use Rattle.steps.specs.Step.{asked, away_from, is_covered, is_entered, card_within};
+ghost use Rattle.steps.specs.Loop.Children.{Compared, child_bound};
 
-pub fn wide(x: u32) -> u64
+use distance::Signature;
+
+fn wide(x: u32) -> u64
     ensures { (result ≡ x) × (result < 2 ^ 32) }
 {
     x as u64
@@ -21,11 +23,10 @@ pub fn smaller(x: u64, y: u64) -> u64
     if x < y { x } else { y }
 }
 
-// The distance of the record in slot s to the signature that starts q.
-pub fn away_from(t: &[u8], kind: u8, q: &[u8], s: usize) -> u64
-    requires { Stands t.now s × (signature_length ≤ length q.now) }
-    ensures { (result ≡ away_from (record_of t.now) kind (readings_at q.now 0) s)
-        × (result ≤ farthest) }
+// The distance of the record in slot s to q.
+pub fn away_from(t: &[u8], kind: u8, q: Signature, s: usize) -> u64
+    requires { Stands t.now s }
+    ensures { (result ≡ away_from (record_of t.now) kind q.readings s) × (result ≤ farthest) }
 {
     wide(table::away_from(t, s, kind, q))
 }
@@ -62,4 +63,49 @@ pub fn note(t: &[u8], s: usize, away: u64, radius: u64, list: &mut [u32], found:
     } else {
         found
     }
+}
+
+// Step 3: all n children of the record in slot s are compared, each once. At each turn the first k distances stand.
+pub fn distances(t: &[u8], kind: u8, q: Signature, s: usize, n: usize) -> [u64; 8]
+    requires { Walkable t.now × Stands t.now s × (n ≡ (record_of t.now s).count) × (n ≤ most_children) }
+    ensures { Compared (record_of t.now) kind q.readings s n result }
+{
+    let mut ds = [0u64; 8];
+    let mut k = 0;
+    while k < n {
+        ds[k] = away_from(t, kind, q, table::child_of(t, s, k));
+        k += 1;
+    }
+    ds
+}
+
+// Step 3: the bound of child k, at the distances ds of the n children. At each turn it has met the siblings before j.
+pub fn bound_of(
+    t: &[u8],
+    s: usize,
+    n: usize,
+    ds: [u64; 8],
+    k: usize,
+    radius: u64,
+    bound: u64,
+) -> u64
+    requires walkable { Walkable t.now × Stands t.now s × (n ≡ (record_of t.now s).count) × (n ≤ most_children) }
+    requires k_lt_n { (k < n) × (radius < 2 ^ 32) × ((j : ℕ) → get_or ds j 0 ≤ farthest) }
+    ensures { (kind : ℕ) (q : List ℕ)
+        → Compared (record_of t.now) kind q s n ds
+        → result ≡ child_bound (asked (record_of t.now) kind q radius) s k bound }
+{
+    let away = ds[k];
+    let mut lowest = bound;
+    let mut j = k + 1;
+    while j < n {
+        if ds[j] + 2 * radius < away {
+            lowest = smaller(
+                wide(table::timestamp_of(t, table::child_of(t, s, j))),
+                lowest,
+            );
+        }
+        j += 1;
+    }
+    lowest
 }

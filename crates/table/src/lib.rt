@@ -5,7 +5,7 @@ mod size;
 
 pub use layout::{NO_SLOT, RECORD};
 pub use read::{
-    away_from, between, card_of, child_of, children_of, count_of, four_slots, is_free, kind_of,
-    parent_of, radius_of, signature_of, slot_of, timestamp_of,
+    away_from, card_of, child_of, children_of, count_of, four_slots, is_free, kind_of, parent_of,
+    radius_of, signature_of, slot_of, timestamp_of,
 };
 pub use size::{records_in, right_size};

@@ -1,10 +1,10 @@
 // The fields of the record in slot s, read where they stand.
-ghost use Rattle.std.specs.Prelude.{◌≡◌, ◌≤◌, ◌<◌, length};
+ghost use Rattle.std.specs.Prelude.{◌≡◌, ◌≤◌, ◌<◌};
 ghost use Rattle.places.specs.Decides.{Decides};
-ghost use Rattle.distance.specs.Signature.{readings_at, word_of};
+ghost use Rattle.distance.specs.Signature.{word_of};
 ghost use Rattle.distance.specs.Laws.{farthest};
 ghost use Rattle.distance.specs.Kind.{apart};
-ghost use Rattle.refusals.specs.Limits.{most_children, signature_length};
+ghost use Rattle.refusals.specs.Limits.{most_children};
 ghost use Rattle.table.specs.Record.{record_of, slot, free};
 ghost use Rattle.table.specs.Stands.{Stands};
 
@@ -92,23 +92,12 @@ pub fn signature_of(t: &[u8], s: usize) -> Signature
     distance::signature_at(t, s * RECORD + SIGNATURE)
 }
 
-// The distance of the record to the signature that starts q: with `between`, the one place where a stored signature is
-// compared. Nothing is copied: both are read where they stand.
-pub fn away_from(t: &[u8], s: usize, kind: u8, q: &[u8]) -> u32
-    requires { Stands t.now s × (signature_length ≤ length q.now) }
-    ensures { (result ≡ apart kind (record_of t.now s).readings (readings_at q.now 0))
-        × (result ≤ farthest) }
+// The distance of the record to q: the one place where a stored signature is compared.
+pub fn away_from(t: &[u8], s: usize, kind: u8, q: Signature) -> u32
+    requires { Stands t.now s }
+    ensures { (result ≡ apart kind (record_of t.now s).readings q.readings) × (result ≤ farthest) }
 {
-    compare::apart(kind, t, s * RECORD + SIGNATURE, q, 0)
-}
-
-// The distance of two records of the table.
-pub fn between(t: &[u8], a: usize, b: usize, kind: u8) -> u32
-    requires { Stands t.now a × Stands t.now b }
-    ensures { (result ≡ apart kind (record_of t.now a).readings (record_of t.now b).readings)
-        × (result ≤ farthest) }
-{
-    compare::apart(kind, t, a * RECORD + SIGNATURE, t, b * RECORD + SIGNATURE)
+    distance::apart(kind, signature_of(t, s), q)
 }
 
 // Whether the record is free, that is, all zero. At each turn its first k words of eight bytes are zero.

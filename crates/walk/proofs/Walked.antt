@@ -14,9 +14,10 @@ use Rattle.tree.specs.View.Count.{child_counts_append}
 use Rattle.tree.specs.Search.{listed}
 use Rattle.tree.specs.Search.Finds.{listed_append}
 use Rattle.view.specs.View.{view_of}
+use Rattle.walk.specs.declared.Reached.{Reached}
 use Rattle.steps.specs.Step.{Query, away_in, card_within}
 use Rattle.steps.specs.Loop.Children.{rest_from}
-use Rattle.walk.specs.State.{State, state, Fits, listed_of, after, noted, walked}
+use Rattle.walk.specs.State.{State, state, state_of, Fits, listed_of, after, noted, walked}
 use Rattle.steps.specs.Loop.Laws.{enters_at, count_length, visit_in}
 
 pub same_parts :
@@ -26,6 +27,9 @@ pub same_parts :
     → c ≡ c'
     → state l f c ≡ state l' f' c'
 same_parts p q r = rw (p, q, r)
+
+pub same_state : {l l' : List ℕ} {r r' : Reached} → l ≡ l' → r ≡ r' → state_of l r ≡ state_of l' r'
+same_state p q i = state_of (p i) (q i)
 
 module _ (Q : Query) where
   after_none : (S : State) → after Q S [] ≡ S

@@ -1,129 +1,66 @@
-// "Visiting a with bound t" (001, Algorithm 2): the walk, over the paper's steps. It calls itself for each level of the
-// tree, so what does not change from level to level is lent in one place, and costs no level more than where that is:
-// the distances found so far, each in its slot's place, and four numbers.
-ghost use Rattle.std.specs.Prelude.{◌≡◌, ◌<◌, ◌≤◌, length, get_or};
-ghost use Rattle.distance.specs.Signature.{readings_at};
-ghost use Rattle.refusals.specs.Limits.{most_records, signature_length};
-ghost use Rattle.table.specs.Record.{record_of};
-ghost use Rattle.table.specs.Table.{records_in};
+// "Visiting a with bound t" (001, Algorithm 2): the walk, over the paper's steps.
+ghost use Rattle.std.specs.Prelude.{◌≡◌, ◌^◌, ◌<◌};
 ghost use Rattle.table.specs.Stands.{Stands, Walkable};
-ghost use Rattle.steps.specs.Loop.Children.{Tells, StillTells};
-ghost use Rattle.walk.specs.State.{query_of, Asks, SameQuery, state_of, Fits, noted_at, walked, walked_below};
+ghost use Rattle.steps.specs.Step.{query, away_in};
+ghost use Rattle.walk.specs.State.{state_of, walked, Fits};
 
-use refusals::limit::RECORDS;
+use distance::{FARTHEST, Signature};
 
-// The four numbers of a search: the kind and the radius that are asked, and how far it has come, the cards listed and
-// the distances worked out.
-pub const KIND: usize = 0;
-
-pub const RADIUS: usize = 1;
-
-pub const FOUND: usize = 2;
-
-pub const COUNT: usize = 3;
-
-// Step 2, of the record in slot s, which is entered: its card is listed after those found if its distance is at most the
-// radius, and its children are counted. Returns how many they are.
-pub fn note(
-    t: &[u8],
-    list: &mut [u32],
-    away: &[u32; RECORDS],
-    numbers: &mut [u64; 4],
-    s: usize,
-) -> usize
-    requires stands { Stands t.now s × (s < most_records) × Asks numbers.old }
-    requires fits { Fits list.old
-        (noted_at (record_of t.now s) (get_or away.now s 0) (get_or numbers.old 1 0)
-        (state_of list.old numbers.old)) }
-    ensures { (state_of list.new numbers.new
-        ≡ noted_at (record_of t.now s) (get_or away.now s 0) (get_or numbers.old 1 0)
-        (state_of list.old numbers.old))
-        × SameQuery numbers.old numbers.new
-        × (result ≡ (record_of t.now s).count) }
-{
-    let found = steps::note(
-        t,
-        s,
-        steps::wide(away[s]),
-        numbers[RADIUS],
-        list,
-        numbers[FOUND] as usize,
-    );
-    let n = table::children_of(t, s);
-    numbers[FOUND] = found as u64;
-    numbers[COUNT] += n as u64;
-    n
+// How far a search has come: the cards listed, and the distances worked out.
+#[derive(Drop)]
+pub struct Reached {
+    pub found: usize,
+    pub count: usize,
 }
 
-// Step 3, of the record in slot s, which is entered under the bound and noted: its children are compared, and each that
-// is entered is noted and walked from. `left` is the depth left. At each turn list and numbers are those of this record
-// and of the walks from its first k children. The number of children is read anew at each turn: kept over the call, it
-// would cost every level its place.
+// The walk from the record in slot s, at the distance `away`; `left` is the depth left. Cards go into the list after
+// those found. At each turn list, cards and count are those of this record and of the walks from its first k children,
+// and `near` is the smallest distance among them; it starts from one that no distance exceeds, so that the first child
+// is always visited.
 pub fn walk(
     t: &[u8],
-    q: &[u8],
+    kind: u8,
+    q: Signature,
+    radius: u64,
     list: &mut [u32],
-    away: &mut [u32; RECORDS],
-    numbers: &mut [u64; 4],
     s: usize,
+    away: u64,
     bound: u64,
+    start: Reached,
     left: usize,
-)
-    requires walkable { Walkable t.now × Stands t.now s × (records_in t.now ≤ most_records)
-        × (signature_length ≤ length q.now) × (length away.old ≡ most_records) × Asks numbers.old }
-    requires fits { Fits list.old
-        (walked_below (query_of t.now q.now numbers.old) left s bound (state_of list.old numbers.old)) }
-    ensures { (state_of list.new numbers.new
-        ≡ walked_below (query_of t.now q.now numbers.old) left s bound
-        (state_of list.old numbers.old))
-        × SameQuery numbers.old numbers.new
-        × (length away.new ≡ most_records)
-        × StillTells (record_of t.now) (get_or numbers.old 0 0) (readings_at q.now 0)
-        away.old away.new }
+) -> Reached
+    requires walkable { Walkable t.now × Stands t.now s × (radius < 2 ^ 32)
+        × (away ≡ away_in (query t.now kind q radius) s) }
+    requires fits { Fits list.old (walked (query t.now kind q radius) left s bound (state_of list.old start)) }
+    ensures { state_of list.new result
+        ≡ walked (query t.now kind q radius) left s bound (state_of list.old start) }
 {
     if left == 0 {
-        return;
+        return start;
     }
-    let least = siblings::compare_all(t, (numbers[KIND] % 256) as u8, q, s, away);
+    if !steps::enters(t, s, away, radius, bound) {
+        return start;
+    }
+    let n = table::children_of(t, s);
+    let ds = steps::distances(t, kind, q, s, n);
+    let found = steps::note(t, s, away, radius, list, start.found);
+    let mut reached = Reached {
+        found: found,
+        count: start.count + n,
+    };
+    let mut near = FARTHEST as u64;
     let mut k = 0;
-    while k < table::children_of(t, s) {
-        let b = siblings::entry_of(t, s, away, k, least, numbers[RADIUS], bound);
-        if 0 < b {
+    while k < n {
+        let e = ds[k];
+        if e <= near + 2 * radius {
             let c = table::child_of(t, s, k);
-            if 0 < note(t, list, away, numbers, c) {
-                walk(t, q, list, away, numbers, c, b, left - 1);
+            if steps::covers(t, c, e, radius) {
+                let b = steps::bound_of(t, s, n, ds, k, radius, bound);
+                reached = walk(t, kind, q, radius, list, c, e, b, reached, left - 1);
             }
         }
+        near = steps::smaller(near, e);
         k += 1;
     }
-}
-
-// Visiting the record in slot s under the bound, where the row tells its distance: step 1, and if it is entered the
-// others. `left` is the depth left, from this record on.
-pub fn visit(
-    t: &[u8],
-    q: &[u8],
-    list: &mut [u32],
-    away: &mut [u32; RECORDS],
-    numbers: &mut [u64; 4],
-    s: usize,
-    bound: u64,
-    left: usize,
-)
-    requires walkable { Walkable t.now × Stands t.now s × (records_in t.now ≤ most_records)
-        × (signature_length ≤ length q.now) × (length away.old ≡ most_records) × Asks numbers.old
-        × Tells (record_of t.now) (get_or numbers.old 0 0) (readings_at q.now 0) s away.old }
-    requires fits { Fits list.old
-        (walked (query_of t.now q.now numbers.old) left s bound (state_of list.old numbers.old)) }
-    ensures { state_of list.new numbers.new
-        ≡ walked (query_of t.now q.now numbers.old) left s bound
-        (state_of list.old numbers.old) }
-{
-    if left == 0 {
-        return;
-    }
-    if steps::enters(t, s, steps::wide(away[s]), numbers[RADIUS], bound) {
-        note(t, list, away, numbers, s);
-        walk(t, q, list, away, numbers, s, bound, left - 1);
-    }
+    reached
 }

@@ -34,7 +34,7 @@ abbrev start : tie.After-in-age-order → tie.Start
 start c = c.before.before.before.before
 
 abbrev ordered : tie.After-last-staying → tie.After-in-age-order
-ordered c = c.before.before.before
+ordered c = c.before.before.before.before
 
 abbrev planned : tie.After-carry-out → tie.After-last-staying
 planned c = c.before.before.before.before
@@ -77,20 +77,23 @@ fine c = let g = ordered c.before in omega (arith, c.if1.false, long g, some g)
 
 -- ---- needs
 
+slice-aggregate-in-age-order : tie.Need-slice-aggregate-in-age-order
+slice-aggregate-in-age-order c = search rules
+
 in-age-order-requires : tie.Need-in-age-order-requires
 in-age-order-requires c κs =
     let d = c.before.before.before.requires.0 in
-    (deletable_walkable d, deletable_stands d, deletable_size d, deletable_few d)
+    (deletable_walkable d, deletable_stands d, deletable_size d, deletable_few d, omega arith)
 
 array-share-prefix-keys : tie.Need-array-share-prefix-keys
-array-share-prefix-keys c = inside c.before
+array-share-prefix-keys c = inside c.before.before
 
 slice-aggregate-last-staying : tie.Need-slice-aggregate-last-staying
-slice-aggregate-last-staying c = sym (long c.before.before)
+slice-aggregate-last-staying c = sym (long c.before.before.before)
 
 last-staying-requires : tie.Need-last-staying-requires
 last-staying-requires c κs =
-    let g = c.before.before in
+    let g = c.before.before.before in
     let d = (start g).requires.0 in
     let e = g.in-age-order.ensures in
     (stand_all (start g).args.t.now, deletable_few_records d, ordered_slots d (row g) (many g) e.0 e.1)
@@ -147,6 +150,7 @@ pub delete-at-spec : {M : Type 1} → statement M
 delete-at-spec =
     tie.close
     (tie.spec
+    slice-aggregate-in-age-order
     in-age-order-requires
     array-share-prefix-keys
     slice-aggregate-last-staying

@@ -9,25 +9,24 @@ use borrow.Author.Tests.{lt-ltb, le-ltb}
 use Rattle.places.specs.Cases.{either}
 use Rattle.places.specs.Choice.{pick}
 use Rattle.number.specs.Frame.{Bytes}
-use Rattle.table.specs.Record.{record_of}
 use Rattle.descent.proofs.Descending.{Walking, still_here, few, walk_on, walk_ends}
 use Rattle.descent.proofs.Descending.{Scanning, scanning, scanning_child, scanning_more}
 use Rattle.descent.proofs.descend.Statement.{statement}
 use Rattle.descent.proofs.descend.Tie as tie
 
 abbrev invariant-loop2 : tie.invariant-loop2
-invariant-loop2 t s kind arity root depth a away left count n best₀ near₀ k₀ best near k =
-    Scanning s kind t a n best near k
+invariant-loop2 t kind x arity root depth a away left count n best₀ near₀ k₀ best near k =
+    Scanning kind x.readings t a n best near k
 
 abbrev decreases-loop2 : tie.decreases-loop2
-decreases-loop2 t s kind arity root depth a away left count n best₀ near₀ k₀ best near k = n - k
+decreases-loop2 t kind x arity root depth a away left count n best₀ near₀ k₀ best near k = n - k
 
 abbrev invariant-loop : tie.invariant-loop
-invariant-loop t₀ s kind arity root depth a₀ away₀ left₀ count₀ t a away left count =
-    Walking t₀ s kind (record_of t₀ s).readings arity root depth t a away left count
+invariant-loop t₀ kind x arity root depth a₀ away₀ left₀ count₀ t a away left count =
+    Walking t₀ kind x.readings arity root depth t a away left count
 
 abbrev decreases-loop : tie.decreases-loop
-decreases-loop t₀ s kind arity root depth a₀ away₀ left₀ count₀ t a away left count = left
+decreases-loop t₀ kind x arity root depth a₀ away₀ left₀ count₀ t a away left count = left
 
 -- ---- stations: a turn of the walk, where its radius is raised and its children are counted
 
@@ -72,8 +71,8 @@ child c = c.before.before.before
 
 -- ---- needs
 
-between-requires : tie.Need-between-requires invariant-loop2 decreases-loop2 invariant-loop decreases-loop
-between-requires c κs = search rules
+away-from-requires : tie.Need-away-from-requires invariant-loop2 decreases-loop2 invariant-loop decreases-loop
+away-from-requires c κs = search rules
 
 loop-holds : tie.Need-loop-init invariant-loop2 decreases-loop2 invariant-loop decreases-loop
 loop-holds c = search rules
@@ -107,11 +106,10 @@ child-of-requires c κs =
     let i = c.before.before.loop2.invariant in
     (i.here, (scanning_child i c.before.loop2-test.true).0)
 
-between-requires-2 : tie.Need-between-requires-2 invariant-loop2 decreases-loop2 invariant-loop decreases-loop
-between-requires-2 c κs =
+away-from-requires-2 : tie.Need-away-from-requires-2 invariant-loop2 decreases-loop2 invariant-loop decreases-loop
+away-from-requires-2 c κs =
     let s = scan c.before in
-    let i = s.before.loop2.inv in
-    (rw c.before.child-of.ensures (scanning_child i s.loop2-test.taken).1, i.newcomer_stands)
+    rw c.before.child-of.ensures (scanning_child s.before.loop2.inv s.loop2-test.taken).1
 
 add-k : tie.Need-overflow-add-k invariant-loop2 decreases-loop2 invariant-loop decreases-loop
 add-k c = search rules
@@ -122,7 +120,7 @@ loop2-less c = search rules
 -- the nearest so far is the child, or stays
 nearer : (c : Compared) →
     let l = (scan (child c)).before.loop2 in
-    let e = c.before.between2.result in
+    let e = c.before.away-from2.result in
     (c.if1.best ≡ pick (ltb e l.near) (child c).child-of.result l.best)
     × (c.if1.near ≡ pick (ltb e l.near) e l.near)
 nearer c =
@@ -134,7 +132,7 @@ nearer c =
 loop2-again : tie.Need-loop2-preserved invariant-loop2 decreases-loop2 invariant-loop decreases-loop
 loop2-again c =
     let s = scan (child c) in
-    let far = c.before.between2 in
+    let far = c.before.away-from2 in
     scanning_more
     s.before.loop2.inv
     (child c).child-of.result
@@ -157,7 +155,8 @@ loop-again c =
     let k = l.before in
     let w = (walk k).loop.invariant in
     let r = (raised k).raise.ensures in
-    walk_on w r (bytes k) l.loop2.invariant c.before.loop2-test.false c.if2.false
+    let fit = (start (walk k)).pre.2 in
+    walk_on w r (bytes k) fit l.loop2.invariant c.before.loop2-test.false c.if2.false
 
 same_length : tie.Need-same-length invariant-loop2 decreases-loop2 invariant-loop decreases-loop
 same_length c = search rules
@@ -167,8 +166,9 @@ returns c =
     let l = c.before.before in
     let k = l.before in
     let w = (walk k).loop.invariant in
-    let r = (raised k).raise.ensures in (
-      walk_ends w r (bytes k) l.loop2.invariant c.before.loop2-test.false c.if2.true,
+    let r = (raised k).raise.ensures in
+    let fit = (start (walk k)).pre.2 in (
+      walk_ends w r (bytes k) fit l.loop2.invariant c.before.loop2-test.false c.if2.true,
       omega (arith, w.small, w.some, few w r, l.loop2.invariant.count_is),
     )
 
@@ -180,7 +180,7 @@ descend-spec =
     decreases-loop2
     invariant-loop
     decreases-loop
-    between-requires
+    away-from-requires
     loop-holds
     raise-requires
     sub-left
@@ -189,7 +189,7 @@ descend-spec =
     add-count
     loop2-holds
     child-of-requires
-    between-requires-2
+    away-from-requires-2
     add-k
     loop2-less
     loop2-again

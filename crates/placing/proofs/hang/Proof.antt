@@ -2,14 +2,19 @@
 -- hangs (`hung`). Assumes nothing.
 use native.Mathlib.Omega.{arith}
 use borrow.Author.Rules.{rules}
+use Rattle.number.specs.Frame.{Bytes}
+use Rattle.table.specs.Fitting.{record_fits}
 use Rattle.placing.proofs.Hung.{Walked, walk_over, slot_few, slot_still, host_few, host_stands, host_room, hung}
 use Rattle.placing.proofs.hang.Statement.{statement}
 use Rattle.placing.proofs.hang.Tie as tie
 
--- ---- stations: where the walk is over, and where the host has its child
+-- ---- stations: where the signature is read, where the walk is over, and where the host has its child
 
-abbrev start : tie.After-descend → tie.Start
+abbrev start : tie.After-signature-of → tie.Start
 start c = c.before.before.before
+
+abbrev read : tie.After-descend → tie.After-signature-of
+read c = c.before.before
 
 abbrev walked : tie.After-adopt → tie.After-descend
 walked c = c.before.before.before.before
@@ -19,33 +24,44 @@ adopted c = c.before.before.before.before
 
 -- the walk ends at the host
 over : (c : tie.After-descend) →
-    let a = (start c).args in
+    let a = (start (read c)).args in
     let d = c.descend in
     Walked a.t.now a.kind a.arity a.s a.root a.depth
     d.new.0 d.result.slot d.result.count
-over c = walk_over (start c).requires c.descend.auto.0 c.descend.ensures.0
+over c =
+    let d = c.descend in
+    let x = (read c).signature-of in
+    walk_over (start (read c)).requires x.result.readings d.auto.0 x.ensures d.ensures.0
 
 -- ---- needs
 
+signature-of-requires : tie.Need-signature-of-requires
+signature-of-requires c κs = search rules
+
 descend-requires : tie.Need-descend-requires
-descend-requires c κs = search rules
+descend-requires c κs =
+    let b = start c.before in
+    let ok = b.pre in
+    let bytes : Bytes b.args.t.now = λ i. (c.before.before.before.slice-known.given i).fits in
+    let fit = (record_fits b.args.t.now b.args.s bytes).readings in
+    (ok.walkable, ok.root_stands, rw c.before.signature-of.ensures fit, ok.some, ok.deep)
 
 adopt-requires : tie.Need-adopt-requires
 adopt-requires c κs =
     let w = c.before.before.before in
-    let ok = (start w).requires in
+    let ok = (start (read w)).requires in
     (host_stands ok (over w), omega (arith, slot_few ok), host_room ok (over w))
 
 cast-seat : tie.Need-overflow-cast-seat
 cast-seat c =
     let w = walked (adopted c) in
-    omega (arith, host_few (start w).pre (over w))
+    omega (arith, host_few (start (read w)).requires (over w))
 
 seat-requires : tie.Need-seat-requires
 seat-requires c κs =
     let host = adopted c in
     let w = walked host in
-    slot_still (start w).pre (over w) host.adopt.ensures
+    slot_still (start (read w)).requires (over w) host.adopt.ensures
 
 same_length : tie.Need-same-length
 same_length c = search rules
@@ -55,7 +71,7 @@ returns c =
     let seated = c.before.before in
     let host = adopted seated.before in
     let w = walked host in
-    let b = start w in (
+    let b = start (read w) in (
       hung b.pre (over w) b.args.timestamp host.adopt.ensures seated.seat.ensures,
       w.descend.ensures.1,
     )
@@ -63,4 +79,11 @@ returns c =
 pub hang-spec : {M : Type 1} → statement M
 hang-spec =
     tie.close
-    (tie.spec descend-requires adopt-requires cast-seat seat-requires same_length returns)
+    (tie.spec
+    signature-of-requires
+    descend-requires
+    adopt-requires
+    cast-seat
+    seat-requires
+    same_length
+    returns)

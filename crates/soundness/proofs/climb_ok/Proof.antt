@@ -14,8 +14,7 @@ use Rattle.soundness.proofs.climb_ok.Tie as tie
 abbrev invariant-loop : tie.invariant-loop
 invariant-loop t kind x time from levels b₀ left₀ b left =
     CardOrNone t b
-    × (climb (record_of t) kind (record_of t x).readings time left b
-    ≡ climb (record_of t) kind (record_of t x).readings time levels from)
+    × (climb (record_of t) kind x.readings time left b ≡ climb (record_of t) kind x.readings time levels from)
 
 abbrev decreases-loop : tie.decreases-loop
 decreases-loop t kind x time from levels b₀ left₀ b left = left
@@ -35,31 +34,36 @@ carded c = (loop c).loop.invariant.0 c.if1.false
 -- ---- needs
 
 loop-holds : tie.Need-loop-init invariant-loop decreases-loop
-loop-holds c = (c.before.requires.2, refl)
+loop-holds c = (c.before.requires.1, refl)
 
 returns : tie.Need-returns invariant-loop decreases-loop
 returns c =
     let here = c.before.before in
     let a = (start here).args in
-    let R = record_of a.t.now in
     let l = here.loop in
-    sym (climb_top R a.kind (R a.x).readings a.time l.left l.b c.if1.true) ∙ l.invariant.1
+    sym (climb_top (record_of a.t.now) a.kind a.x.readings a.time l.left l.b c.if1.true)
+    ∙ l.invariant.1
 
 cast-above : tie.Need-overflow-cast-above invariant-loop decreases-loop
 cast-above c = omega (arith, (carded c).0)
 
 above-ok-requires : tie.Need-above-ok-requires invariant-loop decreases-loop
-above-ok-requires c κs = ((start (loop c)).pre.0, (start (loop c)).pre.1, carded c)
+above-ok-requires c κs = ((start (loop c)).pre.0, carded c)
 
 returns-2 : tie.Need-returns-2 invariant-loop decreases-loop
 returns-2 c =
     let looked = c.before in
     let here = loop looked.before in
     let a = (start here).args in
-    let R = record_of a.t.now in
     let l = here.loop in
     sym
-    (climb_stop R a.kind (R a.x).readings a.time l.left l.b
+    (climb_stop
+    (record_of a.t.now)
+    a.kind
+    a.x.readings
+    a.time
+    l.left
+    l.b
     (omega arith)
     looked.before.if1.false
     (sym looked.above-ok.ensures ∙ not-true looked.above-ok.result c.if2.true))
@@ -82,13 +86,19 @@ loop-again c =
     let end = looked.before in
     let b = start (loop end) in
     let a = b.args in
-    let R = record_of a.t.now in
     let l = (loop end).loop in
     let passed = not-false looked.above-ok.result c.before.if2.false in (
       rw c.parent_of.ensures (parent_card a.t.now l.b b.pre.0 (carded end)),
       rw c.parent_of.ensures
           (sym
-          (climb_up R a.kind (R a.x).readings a.time l.left (l.left - 1) l.b
+          (climb_up
+          (record_of a.t.now)
+          a.kind
+          a.x.readings
+          a.time
+          l.left
+          (l.left - 1)
+          l.b
           (omega arith)
           end.if1.false
           (sym looked.above-ok.ensures ∙ passed))
@@ -98,9 +108,9 @@ loop-again c =
 returns-3 : tie.Need-returns-3 invariant-loop decreases-loop
 returns-3 c =
     let a = (start c.before).args in
-    let R = record_of a.t.now in
     let l = c.before.loop in
-    sym (climb_end R a.kind (R a.x).readings a.time l.left l.b (omega arith)) ∙ l.invariant.1
+    sym (climb_end (record_of a.t.now) a.kind a.x.readings a.time l.left l.b (omega arith))
+    ∙ l.invariant.1
 
 pub climb-ok-spec : {M : Type 1} → statement M
 climb-ok-spec =

@@ -14,8 +14,11 @@ use Rattle.soundness.proofs.record_ok.Tie as tie
 abbrev start : tie.After-card-of → tie.Start
 start c = c.before.before
 
+abbrev signed : tie.After-parent-of → tie.After-signature-of
+signed c = c.before.before
+
 abbrev in_use : tie.After-parent-of → tie.Else1
-in_use c = c.before.before.before
+in_use c = (signed c).before.before
 
 -- the record stands
 here : (b : tie.Start) → Stands b.args.t.now b.args.x
@@ -32,18 +35,21 @@ card-of-requires c κs = here c.before
 kind-of-requires : tie.Need-kind-of-requires
 kind-of-requires c κs = here (start c.before)
 
+signature-of-requires : tie.Need-signature-of-requires
+signature-of-requires c κs = here (start c.before.before)
+
 timestamp-of-requires : tie.Need-timestamp-of-requires
-timestamp-of-requires c κs = here (start c.before.before)
+timestamp-of-requires c κs = here (start c.before.before.before)
 
 parent-of-requires : tie.Need-parent-of-requires
-parent-of-requires c κs = here (start c.before.before.before)
+parent-of-requires c κs = here (start c.before.before.before.before)
 
 climb-ok-requires : tie.Need-climb-ok-requires
 climb-ok-requires c κs =
     let carded = in_use c in
     let b = start carded.before in
     let above = parent_card b.args.t.now b.args.x b.pre.0 (b.pre.1, used-here carded) in
-    (b.pre.0, here b, rw c.parent_of.ensures above)
+    (b.pre.0, rw c.parent_of.ensures above)
 
 returns : tie.Need-returns
 returns c =
@@ -58,11 +64,13 @@ returns-2 c =
     let a = (start carded.before).args in
     c.climb-ok.ensures
     ∙ record_used (records_in a.t.now) (record_of a.t.now) a.x
-    read.before.before.kind-of.result
+    (signed read).before.kind-of.result
+    (signed read).signature-of.result.readings
     read.before.timestamp-of.result
     read.parent_of.result
     (λ e. carded.if1.left (carded.before.card-of.ensures ∙ e))
-    read.before.before.kind-of.ensures
+    (signed read).before.kind-of.ensures
+    (signed read).signature-of.ensures
     read.before.timestamp-of.ensures
     read.parent_of.ensures
 
@@ -72,6 +80,7 @@ record-ok-spec =
     (tie.spec
     card-of-requires
     kind-of-requires
+    signature-of-requires
     timestamp-of-requires
     parent-of-requires
     climb-ok-requires

@@ -17,7 +17,7 @@ abbrev invariant-loop : tie.invariant-loop
 invariant-loop t kind x time far b p count i₀ i =
     (i ≤ count)
     × (count ≡ (record_of t p).count)
-    × (true ≡ all_to i (λ k. sibling_passes (record_of t) kind (record_of t x).readings time b (slot (record_of t p) k)))
+    × (true ≡ all_to i (λ k. sibling_passes (record_of t) kind x.readings time b (slot (record_of t p) k)))
 
 abbrev decreases-loop : tie.decreases-loop
 decreases-loop t kind x time far b p count i₀ i = count - i
@@ -33,16 +33,14 @@ start c = c.before.before.before
 -- the test of one child
 abbrev passes : tie.Start invariant-loop decreases-loop → ℕ → Bool
 passes b =
-    let a = b.args in
-    let R = record_of a.t.now in
-    sibling_passes R a.kind (R a.x).readings a.time a.b
+    sibling_passes (record_of b.args.t.now) b.args.kind b.args.x.readings b.args.time b.args.b
 
 -- ---- needs
 
 count-of-requires : tie.Need-count-of-requires invariant-loop decreases-loop
 count-of-requires c κs =
     let b = c.before in
-    card_stands b.args.t.now b.args.p b.requires.2
+    card_stands b.args.t.now b.args.p b.requires.1
 
 cast-count : tie.Need-overflow-cast-count invariant-loop decreases-loop
 cast-count c = search rules
@@ -53,16 +51,16 @@ loop-holds c = (search rules, search rules, all_none _)
 child-of-requires : tie.Need-child-of-requires invariant-loop decreases-loop
 child-of-requires c κs =
     let b = start c.before in (
-      card_stands b.args.t.now b.args.p b.pre.2,
-      omega (arith, count_most b.args.t.now b.args.p b.pre.0 b.pre.2),
+      card_stands b.args.t.now b.args.p b.pre.1,
+      omega (arith, count_most b.args.t.now b.args.p b.pre.0 b.pre.1),
     )
 
 sibling-ok-requires : tie.Need-sibling-ok-requires invariant-loop decreases-loop
 sibling-ok-requires c κs =
     let b = start (loop c) in
     let l = b.args.t.now in
-    let child = child_card l b.args.p (loop c).loop.i b.pre.0 b.pre.2 (omega arith) in
-    (b.pre.1, rw c.child-of.ensures (card_stands l _ child), b.pre.3)
+    let child = child_card l b.args.p (loop c).loop.i b.pre.0 b.pre.1 (omega arith) in
+    (rw c.child-of.ensures (card_stands l _ child), b.pre.2)
 
 returns : tie.Need-returns invariant-loop decreases-loop
 unfolding siblings_pass

@@ -1,5 +1,5 @@
 -- Loop: the children of one record as the code meets them, one after the other, and the slots that a walk enters so.
-use Rattle.std.specs.Prelude.{ℕ, zero, suc, ◌+◌, ◌≤◌, ◌<◌, min, ◌≡◌, List, length, get_or, drop}
+use Rattle.std.specs.Prelude.{ℕ, zero, suc, ◌+◌, ◌≤◌, ◌<◌, min, ◌≡◌, List, get_or, drop}
 use Rattle.distance.specs.Laws.{farthest}
 use Rattle.distance.specs.Kind.{apart}
 use Rattle.table.specs.Record.{Record, slot, children}
@@ -7,30 +7,10 @@ use Rattle.tree.specs.Search.Turn.{bound_from, turn_from, visit_from}
 use Rattle.view.specs.View.{view_of}
 use Rattle.steps.specs.Step.{Query, away_from, away_in}
 
--- ---- distances in a row, each in its slot's place
-
-module _ (R : ℕ → Record) (kind : ℕ) (q : List ℕ) where
-  -- the row tells how far the record in slot s is from the query
-  abbrev pub Tells : ℕ → List ℕ → Type 0
-  Tells s row = get_or row s 0 ≡ away_from R kind q s
-
-  -- what a row told, another still tells
-  abbrev pub StillTells : List ℕ → List ℕ → Type 0
-  StillTells old row = (s : ℕ) → Tells s old → Tells s row
-
-  -- the row tells of the first n children of the record in slot s
-  abbrev pub TellsChildren : ℕ → ℕ → List ℕ → Type 0
-  TellsChildren s n row = (k : ℕ) → k < n → Tells (slot (R s) k) row
-
--- "All children are compared": the first n children of the record in slot s, and the row tells of them and of all that
--- it told before
-pub record Compared (R : ℕ → Record) (kind : ℕ) (q : List ℕ) (s n : ℕ) (old row : List ℕ) : Type 0 where
-  pub each : TellsChildren R kind q s n row
-  pub near : (k : ℕ) → k < n → away_from R kind q (slot (R s) k) ≤ farthest
-  pub still : StillTells R kind q old row
-  pub long : length row ≡ length old
-
--- ---- the children of one record
+-- "All children are compared": ds holds the distances of the first n children of the record in slot s
+pub record Compared (R : ℕ → Record) (kind : ℕ) (q : List ℕ) (s n : ℕ) (ds : List ℕ) : Type 0 where
+  pub each : (k : ℕ) → k < n → get_or ds k 0 ≡ away_from R kind q (slot (R s) k)
+  pub near : (k : ℕ) → get_or ds k 0 ≤ farthest
 
 -- the smallest of m and f 0, f 1, .. , k of these
 unfoldable pub smallest_to : ℕ → (ℕ → ℕ) → ℕ → ℕ

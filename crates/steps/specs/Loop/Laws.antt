@@ -1,24 +1,22 @@
 -- Laws of the children as the walk's loops meet them: one for each place where a loop or a branch goes on. Assumes
 -- nothing.
 use Prim.Native.Nat.{ℕ, zero, suc, ◌+◌, ◌-◌, ◌*◌, ◌≤◌, ◌<◌, min}
-use Rattle.std.specs.Prelude.{◌≡◌, Bool, true, false, ◌&&◌, List, [], ◌∷◌, ◌++◌, leb, ltb, length, get_or, drop, set}
+use Rattle.std.specs.Prelude.{◌≡◌, Bool, true, false, ◌&&◌, List, [], ◌∷◌, ◌++◌, leb, ltb, length, get_or, drop, set, replicate}
 use Rattle.std.proofs.Math.Path.{refl}
-use Rattle.std.proofs.Common.{sym, ap, subst, ◌∙◌, add-one, below_more, le-leb, lt-ltb, le-ltb, length-set, drop_of_length-le, get_or-set_same, get_or-set_other, get_or-take, length-take-le, drop-cons}
+use Rattle.std.proofs.Common.{sym, ap, ◌∙◌, add-one, below_more, le-leb, lt-ltb, le-ltb, drop_of_length-le, get_or-set_same, get_or-set_other, get_or-take, length-take-le, drop-cons}
 use native.Mathlib.Omega.{arith}
 use Rattle.std.proofs.Math.Decide.{ℕ_discrete}
 use Rattle.std.proofs.lemmas.Bool.{lt-leb}
+use Rattle.places.specs.Fill.{zeros_at}
 use Rattle.distance.specs.Laws.{farthest}
 use Rattle.table.specs.Record.{Record, record_of, slot, children}
 use Rattle.table.specs.Same.{slots_length}
-use Rattle.table.specs.Stands.{Stands, Walkable, in_stands}
-use Rattle.table.specs.Table.{records_in}
-use Rattle.refusals.specs.Limits.{most_records, most_children}
+use Rattle.refusals.specs.Limits.{most_children}
 use Rattle.tree.specs.Slots.{keep}
 use Rattle.tree.specs.Search.{least, enters}
 use Rattle.tree.specs.Search.Turn.{bound_from, turn_from, visit_from}
 use Rattle.steps.specs.Step.{Query, away_from, away_in, is_covered, is_entered}
-use Rattle.steps.specs.Loop.Children.{Tells, StillTells, Compared}
-use Rattle.steps.specs.Loop.Children.{smallest_to, nearest_to, bound_on, child_bound, entered_from, rest_from}
+use Rattle.steps.specs.Loop.Children.{Compared, smallest_to, nearest_to, bound_on, child_bound, entered_from, rest_from}
 
 -- a record of a table that can be walked has its children in its child slots
 pub count_slots :
@@ -26,15 +24,6 @@ pub count_slots :
     → (record_of l s).count ≤ most_children
     → (record_of l s).count ≤ length (record_of l s).slots
 count_slots l s h = omega (arith, slots_length l s)
-
--- and each of them stands in it, and has a place in a row that is as long as the largest table
-module _ (l : List ℕ) (s k c : ℕ) (walkable : Walkable l) (here : Stands l s) (inside : k < (record_of l s).count)
-    (is : c ≡ slot (record_of l s) k) where
-  pub child_stands : Stands l c
-  child_stands = subst (Stands l) (sym is) (walkable.stand s k here inside)
-
-  pub child_in : records_in l ≤ most_records → c < most_records
-  child_in h = omega (arith, in_stands l c child_stands, h)
 
 -- ---- a bound so far, and the smallest distance so far
 
@@ -66,53 +55,39 @@ smallest_at_most (suc k) f start = omega (arith, smallest_at_most k f start)
 
 -- ---- the distances compared
 
-module _ (R : ℕ → Record) (kind : ℕ) (q : List ℕ) where
-  -- one place is set to its own slot's distance: what was told is told, and this too
-  module _ (c x : ℕ) (row : List ℕ) (in_row : c < length row) (e : x ≡ away_from R kind q c) where
-    told_here : Tells R kind q c (set row c x)
-    told_here = get_or-set_same row c x 0 in_row ∙ e
+module _ (R : ℕ → Record) (kind : ℕ) (q : List ℕ) (s : ℕ) where
+  pub compared_none : Compared R kind q s 0 (replicate most_children 0)
+  compared_none = record { each = λ k h. absurd (omega arith); near = λ k. omega (arith, zeros_at most_children k) }
 
-    told_still : StillTells R kind q row (set row c x)
-    told_still s h = elim (ℕ_discrete s c) [
-      | yes i ↦ rw i told_here
-      | no n ↦ get_or-set_other row c s x 0 n ∙ h
-    ]
+  pub compared_more :
+      (k x : ℕ) (ds : List ℕ)
+      → k < length ds
+      → x ≡ away_from R kind q (slot (R s) k)
+      → x ≤ farthest
+      → Compared R kind q s k ds
+      → Compared R kind q s (k + 1) (set ds k x)
+  compared_more k x ds h e f p =
+      record {
+        each =
+            below_more
+            (λ (j : ℕ). get_or (set ds k x) j 0 ≡ away_from R kind q (slot (R s) j))
+            k
+            (λ j b. get_or-set_other ds k j x 0 (λ i. omega arith) ∙ p.each j b)
+            (get_or-set_same ds k x 0 h ∙ e);
+        near = λ j. elim (ℕ_discrete j k) [
+          | yes i ↦ rw i (omega (arith, get_or-set_same ds k x 0 h))
+          | no n ↦ omega (arith, get_or-set_other ds k j x 0 n, p.near j)
+        ];
+      }
 
-  module _ (s : ℕ) where
-    pub compared_none : (row : List ℕ) → Compared R kind q s 0 row row
-    compared_none row =
-        record {
-          each = λ k h. absurd (omega arith);
-          near = λ k h. absurd (omega arith);
-          still = λ i h. h;
-          long = refl;
-        }
-
-    pub compared_more :
-        (k c x : ℕ) (old row : List ℕ)
-        → c ≡ slot (R s) k
-        → c < length row
-        → x ≡ away_from R kind q c
-        → x ≤ farthest
-        → Compared R kind q s k old row
-        → Compared R kind q s (k + 1) old (set row c x)
-    compared_more k c x old row ec in_row e small p =
-        record {
-          each =
-              below_more
-              (λ (j : ℕ). Tells R kind q (slot (R s) j) (set row c x))
-              k
-              (λ j b. told_still c x row in_row e (slot (R s) j) (p.each j b))
-              (subst (λ (i : ℕ). Tells R kind q i (set row c x)) ec (told_here c x row in_row e));
-          near =
-              below_more
-              (λ (j : ℕ). away_from R kind q (slot (R s) j) ≤ farthest)
-              k
-              p.near
-              (subst (λ (i : ℕ). away_from R kind q i ≤ farthest) ec (omega (arith, e, small)));
-          still = λ i h. told_still c x row in_row e i (p.still i h);
-          long = length-set row c x ∙ p.long;
-        }
+-- the smallest of the distances compared is that of the definition
+pub nearest_compared :
+    (Q : Query) (a n k m : ℕ) (ds : List ℕ)
+    → Compared Q.records Q.kind Q.readings a n ds
+    → k ≤ n
+    → m ≡ smallest_to k (λ j. get_or ds j 0) farthest
+    → m ≡ nearest_to Q a k
+nearest_compared Q a n k m ds p h e = e ∙ smallest_same k _ _ farthest (λ j b. p.each j (omega arith))
 
 module _ (Q : Query) where
   -- ---- a visit
