@@ -1,4 +1,6 @@
 // What every call does first: the table that it is lent is judged, and what calls ask of a table is found.
+#![tactic(auto)]
+
 ghost use Rattle.std.specs.Prelude.{◌≡◌, ◌*◌, ◌≤◌};
 ghost use Rattle.refusals.specs.Limits.{most_records};
 ghost use Rattle.table.specs.Record.{record_of};

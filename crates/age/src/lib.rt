@@ -1,4 +1,6 @@
 // Age order: a slot's key is its record's timestamp and then the slot, so keys in order are slots oldest first.
+#![tactic(auto)]
+
 ghost use Rattle.std.specs.Prelude.{◌≡◌, ◌≤◌, ◌<◌, length, set};
 ghost use Rattle.order.specs.Order.{in_order};
 ghost use Rattle.refusals.specs.Limits.{most_records};

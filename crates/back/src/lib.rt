@@ -1,4 +1,6 @@
 // Records that wait go back over a table's records, one at a time by the insert rule, oldest first.
+#![tactic(auto)]
+
 ghost use Rattle.std.specs.Prelude.{◌≡◌, map, eqb};
 ghost use Rattle.places.specs.Choice.{pick};
 ghost use Rattle.table.specs.Stands.{Stands};

@@ -1,4 +1,6 @@
 // A record and all that stands below it: their slots as keys in age order, and the youngest record that is not of them.
+#![tactic(auto)]
+
 mod clock;
 mod gather;
 

@@ -1,6 +1,8 @@
 // The bench program: a table and a list of 512 places, cleared at start; command records of 48 bytes on standard input,
 // a line for each on standard output. What a command does is `command::run`, what a line is `line`; here commands are
 // counted, and bytes read and written. What fails is told on standard error.
+#![tactic(auto)]
+
 ghost use Rattle.std.specs.Prelude.{◌+◌, ◌≤◌, ◌<◌, ◌^◌, ◌≡◌, true, length, take};
 ghost use Rattle.line.specs.Fits.{room_for};
 ghost use Rattle.command.specs.Command.{command_of, command_length};

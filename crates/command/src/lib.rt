@@ -1,4 +1,6 @@
 // One command of the bench program, run on its table and its list.
+#![tactic(auto)]
+
 ghost use Rattle.std.specs.Prelude.{◌≡◌, length};
 ghost use Rattle.command.specs.Command.{Done, operation_of, command_of, command_length};
 

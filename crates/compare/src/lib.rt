@@ -1,5 +1,7 @@
 // The distance of two signatures where they stand, each in 32 of the bytes lent: nothing is copied on the way. Its
 // definition is that of signatures passed by value (crate `distance`), of the readings that stand there.
+#![tactic(auto)]
+
 ghost use Rattle.std.specs.Prelude.{◌≡◌, ◌+◌, ◌≤◌, length};
 ghost use Rattle.distance.specs.Laws.{farthest};
 ghost use Rattle.distance.specs.Signature.{readings_at};

@@ -1,5 +1,7 @@
 // Delete: a card's record leaves with all below it, and those below go back by the insert rule. All tests come before
 // any write.
+#![tactic(auto)]
+
 ghost use Rattle.std.specs.Prelude.{◌≡◌, ◌+◌, ◌≤◌, length};
 ghost use Rattle.refusals.specs.Limits.{most_children, last_timestamp};
 ghost use Rattle.refusals.specs.Outcome.{Outcome};

@@ -1,4 +1,6 @@
 // The walk of a newcomer (001, Algorithm 1): from the root to the record that it is to hang on.
+#![tactic(auto)]
+
 ghost use Rattle.std.specs.Prelude.{◌≡◌, ◌+◌, ◌*◌, ◌≤◌};
 ghost use Rattle.refusals.specs.Limits.{most_records, most_children};
 ghost use Rattle.table.specs.Stands.{Stands, Walkable};

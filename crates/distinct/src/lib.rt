@@ -1,4 +1,6 @@
 // Keys told apart, near linear and without heap: a key is seated among cells, and where that fails all keys are sorted.
+#![tactic(auto)]
+
 ghost use Rattle.std.specs.Prelude.{◌≡◌, ◌≤◌, ◌<◌, length, get_or};
 ghost use Rattle.refusals.specs.Limits.{most_records};
 ghost use Rattle.distinct.specs.Distinct.{distinct_to};

@@ -1,4 +1,6 @@
 // What is stored: all cards in slot order, and what one was stored with. Both calls only read the table.
+#![tactic(auto)]
+
 mod all;
 mod one;
 

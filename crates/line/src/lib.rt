@@ -1,5 +1,7 @@
 // The lines that the bench program prints, put into lent bytes. Where a line does not fit, nothing is written and 0 is
 // answered; specs/Line says what a line is.
+#![tactic(auto)]
+
 ghost use Rattle.std.specs.Prelude.{◌+◌, ◌*◌, ◌%◌, ◌/◌, ◌≤◌, ◌<◌, ◌^◌, suc, ◌≡◌, ◌∷◌, length, take};
 ghost use Rattle.std.proofs.lemmas.List.Edits.{sets};
 ghost use Rattle.line.specs.Line.{decimal, row_of, line_of, cut_of, line_into, Laid};

@@ -1,4 +1,6 @@
 // One pass over the records: what it asks of each, and the numbers that it brings back.
+#![tactic(auto)]
+
 ghost use Rattle.std.specs.Prelude.{◌≡◌, ◌&&◌, ◌+◌, ◌*◌, ◌≤◌, ◌<◌, min};
 ghost use Rattle.refusals.specs.Limits.{most_records, most_children};
 ghost use Rattle.table.specs.Record.{record_of};

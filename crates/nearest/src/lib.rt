@@ -1,5 +1,7 @@
 // The nearest few cards (02, #101): the call, with its refusals. It works on numbers alone, and is told how long the
 // lent list is; the door lays its pairs over that list.
+#![tactic(auto)]
+
 ghost use Rattle.std.specs.Prelude.{◌≡◌, List, map, ℕ, ◌^◌, ◌≤◌, ◌<◌, length, take};
 ghost use Rattle.std.proofs.lemmas.List.Edits.{sets};
 ghost use Rattle.distance.specs.Signature.{Fit};

@@ -1,4 +1,6 @@
 // What a newcomer changes in one record: a radius on the way, the host's children, and its own record.
+#![tactic(auto)]
+
 ghost use Rattle.std.specs.Prelude.{◌≡◌, ◌+◌, ◌*◌, ◌≤◌, ◌<◌, length};
 ghost use Rattle.distance.specs.Signature.{Fit};
 ghost use Rattle.refusals.specs.Limits.{most_children};

@@ -1,4 +1,6 @@
 // Numbers in lent bytes, low byte first.
+#![tactic(auto)]
+
 ghost use Rattle.std.specs.Prelude.{◌≡◌, ◌+◌, ◌≤◌, ◌<◌, length};
 ghost use Rattle.number.specs.Number.{number_at, open_number, with_number};
 

@@ -1,4 +1,6 @@
 // A list of pairs that a caller lends: what a search for the nearest cards answers is laid over its first entries.
+#![tactic(auto)]
+
 ghost use Rattle.std.specs.Prelude.{◌≡◌, ◌≤◌, length, take};
 ghost use Rattle.std.proofs.lemmas.List.Edits.{sets};
 ghost use Rattle.refusals.specs.Limits.{most_nearest};

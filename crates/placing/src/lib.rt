@@ -1,5 +1,7 @@
 // Placing one newcomer by the insert rule (001, Algorithm 1): insert places one, delete hangs again those that stood
 // below the deleted card.
+#![tactic(auto)]
+
 ghost use Rattle.std.specs.Prelude.{◌≡◌, ◌+◌, ◌*◌, ◌≤◌};
 ghost use Rattle.refusals.specs.Limits.{most_children};
 ghost use Rattle.distance.specs.Kind.{apart};

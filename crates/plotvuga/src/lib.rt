@@ -1,6 +1,8 @@
 // The library's doors: the calls as C functions over lent bytes and numbers. include/plotvuga.h says what a C
 // caller needs to know. Each returns the paper's refusal number, 0 if it was done; counts go to where the caller
 // points.
+#![tactic(auto)]
+
 ghost use Rattle.std.specs.Prelude.{◌≡◌};
 ghost use Rattle.writing.specs.Clear.{Cleared, clear_of};
 ghost use Rattle.insert.specs.Insert.{insert_of};

@@ -1,4 +1,6 @@
 // Parts of the library opened as C functions, for the comparison with the independent model. No part of the product.
+#![tactic(auto)]
+
 ghost use Rattle.std.specs.Prelude.{◌≡◌, ◌≤◌};
 ghost use Rattle.writing.specs.Clear.{Cleared, clear_of};
 ghost use Rattle.survey.specs.Survey.{used_in, lowest_free, root_of, kind_of, largest_timestamp};

@@ -1,4 +1,6 @@
 // The paper's refusal numbers, its limits, and what a call that is refused returns: code here, their meaning in specs/.
+#![tactic(auto)]
+
 ghost use Rattle.std.specs.Prelude.{◌≡◌};
 
 pub mod limit;

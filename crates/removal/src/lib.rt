@@ -1,4 +1,6 @@
 // A record leaves its parent, and its slot becomes free.
+#![tactic(auto)]
+
 ghost use Rattle.std.specs.Prelude.{◌≡◌, ◌≤◌, set};
 ghost use Rattle.refusals.specs.Limits.{most_children};
 ghost use Rattle.table.specs.Record.{record_of, free};

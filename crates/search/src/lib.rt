@@ -1,4 +1,6 @@
 // Range search (001, Algorithm 2): the call, with its refusals.
+#![tactic(auto)]
+
 ghost use Rattle.std.specs.Prelude.{◌≡◌, List, ℕ, ◌^◌, ◌≤◌, ◌<◌, length};
 ghost use Rattle.distance.specs.Signature.{Fit};
 ghost use Rattle.table.specs.Record.{record_of};

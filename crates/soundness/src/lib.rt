@@ -2,6 +2,8 @@
 // with each record above it and with that record's older siblings. So a record and one above it meet once: a tree of
 // small depth costs some distances for each record, and the worst case, a chain of 1,024 records, half a million
 // distances, some milliseconds. To walk down from each record would meet the same pairs, but needs a stack.
+#![tactic(auto)]
+
 ghost use Rattle.std.specs.Prelude.{◌≡◌, ◌<◌};
 ghost use Rattle.distance.specs.Kind.{apart};
 ghost use Rattle.table.specs.Record.{record_of};

@@ -1,5 +1,7 @@
 // The steps of "visiting a with bound t" (001, Algorithm 2), each a function of its own: what is asked of one record,
 // and of the children of one.
+#![tactic(auto)]
+
 ghost use Rattle.std.specs.Prelude.{◌≡◌, List, ℕ, ◌+◌, ◌^◌, ◌≤◌, ◌<◌, min, length, get_or};
 ghost use Rattle.std.proofs.lemmas.List.Edits.{sets};
 ghost use Rattle.distance.specs.Laws.{farthest};

@@ -1,4 +1,6 @@
 // The small questions that the calls ask of a table.
+#![tactic(auto)]
+
 ghost use Rattle.std.specs.Prelude.{◌≡◌, max};
 ghost use Rattle.table.specs.Record.{record_of};
 ghost use Rattle.table.specs.Stands.{StandTo};

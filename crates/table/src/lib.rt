@@ -1,4 +1,6 @@
 // The record and the table in lent bytes: how they are laid out, and how they are read.
+#![tactic(auto)]
+
 pub mod layout;
 mod read;
 mod size;

@@ -1,5 +1,7 @@
 // Records that wait are taken one after the other, and their children compared (02, #101): the loops of a search for
 // the nearest cards, over the rows of `waiting`.
+#![tactic(auto)]
+
 ghost use Rattle.std.specs.Prelude.{◌≡◌, ◌+◌, ◌≤◌};
 ghost use Rattle.distance.specs.Signature.{Fit};
 ghost use Rattle.distance.specs.Laws.{farthest};

@@ -1,5 +1,7 @@
 // Records that wait and cards that are held, as rows of keys in order (02, #101): what is asked of one record in a
 // search for the nearest cards.
+#![tactic(auto)]
+
 ghost use Rattle.std.specs.Prelude.{◌≡◌, ◌+◌, ◌-◌, ◌≤◌, ◌<◌, min, max, length, take};
 ghost use Rattle.order.specs.Order.{Rising};
 ghost use Rattle.order.specs.Among.{falling};

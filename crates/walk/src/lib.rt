@@ -1,4 +1,6 @@
 // "Visiting a with bound t" (001, Algorithm 2): the walk, over the paper's steps.
+#![tactic(auto)]
+
 ghost use Rattle.std.specs.Prelude.{◌≡◌, ◌^◌, ◌<◌};
 ghost use Rattle.table.specs.Stands.{Stands, Walkable};
 ghost use Rattle.steps.specs.Step.{query, away_in};

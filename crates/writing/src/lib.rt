@@ -1,4 +1,6 @@
 // The fields of the record in slot s, written where they stand; and records made free, one or all.
+#![tactic(auto)]
+
 ghost use Rattle.std.specs.Prelude.{◌≡◌, ◌+◌, ◌≤◌, ◌<◌, length};
 ghost use Rattle.refusals.specs.Limits.{most_children, signature_length};
 ghost use Rattle.table.specs.Stands.{Stands};
