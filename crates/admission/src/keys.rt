@@ -10,7 +10,7 @@ use distinct::{CELLS, Seat};
 use refusals::limit::RECORDS;
 
 // Which field of a record is its key.
-#[derive(Drop)]
+#[derive(Clone, Copy)]
 pub enum Key {
     Card,
     Timestamp,

@@ -20,7 +20,7 @@ use survey::Findings;
 use table::RECORD;
 
 // The refusal by the table's size and form, 0 if there is none, and then what was found in the table.
-#[derive(Drop)]
+#[derive(Clone, Copy)]
 pub struct Admitted {
     pub refusal: u8,
     pub found: Findings,

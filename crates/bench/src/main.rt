@@ -77,7 +77,7 @@ fn print_cut(done: u64, left: usize)
 }
 
 // What reading came to: how many bytes are there, and whether it failed.
-#[derive(Drop)]
+#[derive(Clone, Copy)]
 struct Reading {
     bytes: usize,
     failed: bool,

@@ -10,7 +10,7 @@ use refusals::ARGUMENT;
 pub const COMMAND: usize = 48;
 
 // What a line of the program reports.
-#[derive(Drop)]
+#[derive(Clone, Copy)]
 pub struct Report {
     pub refusal: u8,
     pub count: u32,

@@ -16,7 +16,7 @@ use newcomer::raise;
 const FARTHER: u32 = distance::FARTHEST + 1;
 
 // Where the newcomer hangs, and the distances worked out.
-#[derive(Drop)]
+#[derive(Clone, Copy)]
 pub struct Attach {
     pub slot: usize,
     pub count: u32,

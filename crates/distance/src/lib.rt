@@ -12,7 +12,7 @@ ghost use Rattle.distance.specs.Kind.{apart, known_kind};
 pub const FARTHEST: u32 = 1048560;
 
 // Sixteen readings held together and passed as one. A fault mask is the same 32 bytes, taken as four words.
-#[derive(Drop)]
+#[derive(Clone, Copy)]
 pub struct Signature {
     pub readings: [u16; 16],
 }

@@ -14,7 +14,7 @@ pub const CELLS: usize = 4096;
 const PROBES: usize = 32;
 
 // What comes of seating a key: it took an empty cell, it was there before, or too many other keys stood in its way.
-#[derive(Drop)]
+#[derive(Clone, Copy)]
 pub enum Seat {
     Fresh,
     Seen,

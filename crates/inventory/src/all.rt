@@ -9,7 +9,7 @@ ghost use Rattle.inventory.specs.Cards.{cards_in, outcome, all_cards_of};
 use refusals::{DONE, SHORT};
 
 // What the call returns: 0 or the refusal's number, and how many cards are listed.
-#[derive(Drop)]
+#[derive(Clone, Copy)]
 pub struct Listed {
     pub refusal: u8,
     pub found: u32,

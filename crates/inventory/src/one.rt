@@ -10,7 +10,7 @@ use refusals::{ABSENT, ARGUMENT, DONE, SHORT};
 use table::RECORD;
 
 // What the call returns: 0 or the refusal's number, and the card's kind.
-#[derive(Drop)]
+#[derive(Clone, Copy)]
 pub struct Told {
     pub refusal: u8,
     pub kind: u8,

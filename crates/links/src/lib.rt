@@ -110,7 +110,7 @@ fn record_ok(
 // of all records were not found free, how many children they count, and whether timestamps rise with the slots, so that
 // they need not be told apart; and for the calls the lowest free slot, the largest timestamp and the slot of the root.
 // A slot that is not found is the number of records, and so past the last.
-#[derive(Drop)]
+#[derive(Clone, Copy)]
 pub struct Seen {
     pub fit: bool,
     pub kind: u8,

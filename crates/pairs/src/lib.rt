@@ -9,14 +9,14 @@ use refusals::limit::NEAREST;
 
 // A card with its distance from the query, as a C caller sees it.
 #[repr(C)]
-#[derive(Drop)]
+#[derive(Clone, Copy)]
 pub struct Pair {
     pub card: u32,
     pub distance: u32,
 }
 
 // What a search answers: its pairs, of which the first n count, and the number that the call returns.
-#[derive(Drop)]
+#[derive(Clone, Copy)]
 pub struct Answer {
     pub pairs: [Pair; NEAREST],
     pub n: usize,

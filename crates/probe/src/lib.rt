@@ -48,7 +48,7 @@ pub extern "C" fn probe_clear(t: &mut [u8]) -> u32
 }
 
 // The answers to the small questions, as numbers of one width.
-#[derive(Drop)]
+#[derive(Clone, Copy)]
 struct Told {
     used: u32,
     lowest: u32,

@@ -29,7 +29,7 @@ pub const SHORT: u8 = 9;
 pub const LOOSE: u8 = 10;
 
 // What a call that changes the table returns: the refusal, 0 if none, and the distances worked out.
-#[derive(Drop)]
+#[derive(Clone, Copy)]
 pub struct Changed {
     pub refusal: u8,
     pub count: u32,

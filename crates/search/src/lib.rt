@@ -20,7 +20,7 @@ use walk::Reached;
 const NO_BOUND: u64 = 4294967296;
 
 // What a search returns: 0 or the refusal's number, the distances worked out, and the cards listed.
-#[derive(Drop)]
+#[derive(Clone, Copy)]
 pub struct Found {
     pub refusal: u8,
     pub count: u32,

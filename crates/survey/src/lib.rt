@@ -8,7 +8,7 @@ ghost use Rattle.survey.specs.Survey.{slot_of_card};
 
 // What the pass over a table finds: how many records are used, the lowest free slot, the largest timestamp in use,
 // the root's slot and the kind. A slot that is not found is the number of records, and so past the last.
-#[derive(Drop)]
+#[derive(Clone, Copy)]
 pub struct Findings {
     pub used: usize,
     pub lowest: usize,

@@ -21,7 +21,7 @@ pub const SECOND: u64 = 1024;
 
 // How far the work has come: the first `waits` of one row wait, the next to be taken last, so that taking it moves
 // nothing; the first `held` of the other row are held, the nearest first; `count` distances were worked out.
-#[derive(Drop)]
+#[derive(Clone, Copy)]
 pub struct Front {
     pub waits: usize,
     pub held: usize,

@@ -9,7 +9,7 @@ ghost use Rattle.walk.specs.State.{state_of, walked, Fits};
 use distance::{FARTHEST, Signature};
 
 // How far a search has come: the cards listed, and the distances worked out.
-#[derive(Drop)]
+#[derive(Clone, Copy)]
 pub struct Reached {
     pub found: usize,
     pub count: usize,

@@ -1,0 +1,12 @@
+-- `distance::readings_apart` meets its contract.
+-- The loop's invariant: the sum is that of the differences passed. Assumes nothing.
+use Rattle.std.specs.Prelude.{◌≤◌, ◌*◌, ◌-◌, ◌≡◌}
+use Rattle.places.specs.Sum.{sum_to}
+use Rattle.distance.specs.Readings.{reading_gap}
+use Rattle.distance.proofs.readings_apart.Given as goal
+
+abbrev pub invariant-loop-i : goal.invariant-loop-i
+invariant-loop-i l = (l.i ≤ 16) × (l.sum ≡ sum_to l.i (reading_gap l.a.readings l.b.readings)) × (l.sum ≤ 65535 * l.i)
+
+abbrev pub decreases-loop-i : goal.decreases-loop-i
+decreases-loop-i l = 16 - l.i
