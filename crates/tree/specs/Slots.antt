@@ -71,11 +71,13 @@ flat_map_from f x (a ∷ l) i = either (Memᴰ.append_cases (f a) i)
 
 pub flat_map_to : (f : ℕ → List ℕ) (x a : ℕ) (l : List ℕ) → a ∈ l → x ∈ f a → x ∈ flat_map f l
 unfolding flat_map
+flat_map_to f x a [] x3 j = elim x3 [ ]
 flat_map_to f x a (b ∷ l) (first e) j = Memᴰ.append_left (flat_map f l) (rw e at j)
 flat_map_to f x a (b ∷ l) (later i) j = Memᴰ.append_right (f b) (flat_map_to f x a l i j)
 
 pub flat_map_part : (f : ℕ → List ℕ) (a : ℕ) (l : List ℕ) → a ∈ l → f a ⊑ flat_map f l
 unfolding flat_map
+flat_map_part f a [] x' = elim x' [ ]
 flat_map_part f a (b ∷ l) (first e) = rw e (part_left (f b) (flat_map f l))
 flat_map_part f a (b ∷ l) (later i) = part_right (f b) (flat_map_part f a l i)
 
@@ -92,6 +94,7 @@ image_from f c (a ∷ l) (first e) = (a, first refl, e)
 image_from f c (a ∷ l) (later i) = let z = image_from f c l i in (z.0, later z.1, z.2)
 
 pub image_to : {A B : Type 0} (f : A → B) (a : A) (l : List A) → Memᴰ a l → Memᴰ (f a) (map f l)
+image_to {A = A} {B = B} f a [] x' = elim x' [ ]
 image_to f a (b ∷ l) (first e) = first (ap f e)
 image_to f a (b ∷ l) (later i) = later (image_to f a l i)
 

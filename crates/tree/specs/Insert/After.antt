@@ -52,7 +52,7 @@ module _ {Sig : Type 0} {d : Sig → Sig → ℕ} {v w : View Sig} {c s t on : �
   inserted_upper (down i q) e = Memᴰ.not-nil (rw (e, done.children_new) at i)
 
   -- an old record stands below what it stood below
-  pub inserted_below : {k y a : ℕ} → (y ≡ s → ⊥) → Below w.children y k a → Below v.children y k a
+  pub inserted_below : {y k a : ℕ} → (y ≡ s → ⊥) → Below w.children y k a → Below v.children y k a
   inserted_below ne (here e) = here e
   inserted_below ne (down {a = a} {b = b} i q) = either (inserted_child a b i)
       (λ z. absurd (ne (inserted_lowest (rw z.0 at q))))

@@ -36,7 +36,7 @@ Underneath v ws x = (w : Waiting) × (j : ℕ) × Memᴰ w ws × Below v.childre
 
 module _ {Sig : Type 0} {v : View Sig} {n root : ℕ} (wf : Formed v n root) {ws : List Waiting} {ts : List ℕ}
     (g : Going v root ws ts) where
-  reached : {j a x : ℕ} → Below v.children x j a → a ∈ compared v root ts
+  reached : {x j a : ℕ} → Below v.children x j a → a ∈ compared v root ts
       → x ∈ compared v root ts ⊎ Underneath v ws x
   reached (here e) i = inl (Memᴰ.cast e i)
   reached {x = x} (down {k = j} {a = a} {b = b} c p) i = either (g.met a i)

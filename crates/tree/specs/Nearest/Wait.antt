@@ -80,6 +80,7 @@ module _ {Sig : Type 0} (d : Sig → Sig → ℕ) (v : View Sig) (q : Sig) (p : 
 
   pub wait_adds : (os bs : List ℕ) (ws : List Waiting) (a : ℕ) → a ∈ bs → a ∈ slots (wait d v q p os bs ws)
   unfolding wait
+  wait_adds os [] ws a x' = elim x' [ ]
   wait_adds os (b ∷ bs) ws a (first e) =
       let i = put_by_to (sooner v) (waiting b _) (waiting b _) ws (first refl) in
       Memᴰ.cast e (image_to slot_of (waiting b _) _ (wait_keeps (b ∷ os) bs _ _ i))

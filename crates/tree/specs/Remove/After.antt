@@ -26,6 +26,7 @@ except_from b c (a ∷ l) i = go (eqb a b) refl (except_from b c l) i
 
 pub except_to : (b c : ℕ) (l : List ℕ) → c ∈ l → (c ≡ b → ⊥) → c ∈ except b l
 unfolding except
+except_to b c [] x'' ne = elim x'' [ ]
 except_to b c (a ∷ l) (first e) ne = rw (ne_eqb a b (λ h. ne (e ∙ h))) (first e)
 except_to b c (a ∷ l) (later i) ne = go (eqb a b) (except_to b c l i ne)
   where
@@ -55,7 +56,7 @@ module _ {Sig : Type 0} {v w : View Sig} {n root b : ℕ} (wf : Formed v n root)
       above u j ne zero (here e) = ne e
       above u j ne (suc k) p = gone.removed a k (rw (wf.child_parent a c j) at (below_parent wf p)) u
 
-  pub removed_below : {k y a : ℕ} → Used w a → Below w.children y k a → Below v.children y k a × Used w y
+  pub removed_below : {y k a : ℕ} → Used w a → Below w.children y k a → Below v.children y k a × Used w y
   removed_below u (here e) = (here e, rw e u)
   removed_below u (down {a = a} {b = c} i p) =
       let z = removed_child a c i in

@@ -60,6 +60,7 @@ module _ {Sig : Type 0} (d : Sig → Sig → ℕ) (v : View Sig) (q : Sig) (r : 
       → v.timestamp x < t → v.timestamp b ≤ v.timestamp x
       → ((t' : ℕ) → v.timestamp x < t' → x ∈ go b t') → x ∈ turn d v q r go t os bs
   unfolding turn
+  turn_reaches go t x b os [] ris x8 g f xt bx h = elim x8 [ ]
   turn_reaches go t x b os (c ∷ bs) ris (first e) g f xt bx h = rw (← e) (Memᴰ.append_left _
       (keep_to _ x _ (is_visited_all _ b g) (h _ (bound_above t b (v.timestamp x) bs xt (λ c' i. f c' (later i))))))
   turn_reaches go t x b os (c ∷ bs) ris (later i) g f xt bx h = Memᴰ.append_right (keep _ _)
@@ -128,6 +129,7 @@ module _ {Sig : Type 0} (d : Sig → Sig → ℕ) (v : View Sig) (q : Sig) (r : 
 
   pub listed_to : (a : ℕ) (l : List ℕ) → a ∈ l → away d v q a ≤ r → v.card a ∈ listed d v q r l
   unfolding listed
+  listed_to a [] x'' h = elim x'' [ ]
   listed_to a (b ∷ l) (first e) h = Memᴰ.append_left (listed d v q r l)
       (keep_to _ (v.card a) (v.card b ∷ []) (le-leb (away d v q b) r (rw (← e) h)) (first (ap v.card e)))
   listed_to a (b ∷ l) (later i) h =

@@ -35,7 +35,7 @@ unfolding least
 least_asked b m n e = rw e (omega arith)
 
 -- x below y, and y below a
-below_below : {children : ℕ → List ℕ} {j k x y a : ℕ} → Below children y j a → Below children x k y
+below_below : {children : ℕ → List ℕ} {y k x j a : ℕ} → Below children y j a → Below children x k y
     → (m : ℕ) × Below children x m a
 below_below {k = k} (here e) s = (k, rw (← e) s)
 below_below (down i p) s = let z = below_below p s in (suc z.0, down i z.1)
@@ -62,6 +62,7 @@ module _ {Sig : Type 0} (d : Sig → Sig → ℕ) (v : View Sig) (q : Sig) (r : 
   bound_cuts : (t b c : ℕ) (cs : List ℕ) → c ∈ cs → away d v q c + 2 * r < away d v q b
       → bound d v q r t b cs ≤ v.timestamp c
   unfolding bound
+  bound_cuts t b c [] x'' h = elim x'' [ ]
   bound_cuts t b c (e ∷ cs) (first p) h = rw p (least_asked _ (v.timestamp e) (bound d v q r t b cs)
       (lt-ltb (away d v q e + 2 * r) (away d v q b) (rw p at h)))
   bound_cuts t b c (e ∷ cs) (later i) h =
@@ -74,6 +75,7 @@ module _ {Sig : Type 0} (d : Sig → Sig → ℕ) (v : View Sig) (q : Sig) (r : 
   is_visited_at : (os : List ℕ) (b o : ℕ) → is_visited d v q r os b ≡ true → o ∈ os
       → away d v q b ≤ away d v q o + 2 * r
   unfolding is_visited
+  is_visited_at [] b o e x'' = elim x'' [ ]
   is_visited_at (p ∷ os) b o e (first s) =
       rw s (leb-true (away d v q b) (away d v q p + 2 * r) (and_left (leb (away d v q b) (away d v q p + 2 * r)) _ e))
   is_visited_at (p ∷ os) b o e (later i) =

@@ -77,7 +77,8 @@ module _ {Sig : Type 0} (d : Sig → Sig → ℕ) (v : View Sig) (q : Sig) (r : 
   pub bound_from_is : (t b : ℕ) (cs : List ℕ) → bound_from d v q r t b cs ≡ bound d v q r t b cs
   unfolding bound_from bound
   bound_from_is t b [] = refl
-  bound_from_is t b (c ∷ cs) = bound_from_is _ b cs ∙ bound_least _ (v.timestamp c) t b cs
+  bound_from_is t b (c ∷ cs) =
+      bound_from_is (least (ltb (away d v q c + 2 * r) (away d v q b)) (v.timestamp c) t) b cs ∙ bound_least _ (v.timestamp c) t b cs
 
   -- ---- the turn
 

@@ -78,6 +78,7 @@ module _ {A : Type 0} (before : A → A → Bool) where
 
   pub sort_by_to : (y : A) (l : List A) → Memᴰ y l → Memᴰ y (sort_by before l)
   unfolding sort_by
+  sort_by_to y [] x' = elim x' [ ]
   sort_by_to y (x ∷ l) (first e) = put_by_to x y (sort_by before l) (first e)
   sort_by_to y (x ∷ l) (later i) = put_by_to x y (sort_by before l) (later (sort_by_to y l i))
 

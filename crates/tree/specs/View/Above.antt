@@ -11,7 +11,7 @@ above parent zero x = x
 above parent (suc k) x = parent (above parent k x)
 
 module _ {Sig : Type 0} {v : View Sig} {n root : ℕ} (wf : Formed v n root) where
-  pub below_above : {k x a : ℕ} → Below v.children x k a → above v.parent k x ≡ a
+  pub below_above : {x k a : ℕ} → Below v.children x k a → above v.parent k x ≡ a
   unfolding above
   below_above (here e) = e
   below_above (down {a = a} {b = b} i p) = ap v.parent (below_above p) ∙ wf.child_parent a b i

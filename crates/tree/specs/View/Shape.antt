@@ -11,7 +11,7 @@ use Rattle.tree.specs.View.{View, Used, Free, Below, here, down, Shallow, Rising
 -- ---- in any table
 
 -- one level more, at the lower end
-pub below_child : {children : ℕ → List ℕ} {k x y a : ℕ} → Below children y k a → x ∈ children y
+pub below_child : {children : ℕ → List ℕ} {y x k a : ℕ} → Below children y k a → x ∈ children y
     → Below children x (suc k) a
 below_child (here e) i = down (rw e at i) (here refl)
 below_child (down j p) i = down j (below_child p i)
@@ -43,20 +43,20 @@ rising_same timestamp other (a ∷ l) f r = (
 
 module _ {Sig : Type 0} {v : View Sig} {n root : ℕ} (wf : Formed v n root) where
   -- a record is younger than what it stands below, by the levels between at least
-  pub below_younger : {k x a : ℕ} → Below v.children x k a → v.timestamp a + k ≤ v.timestamp x
+  pub below_younger : {x k a : ℕ} → Below v.children x k a → v.timestamp a + k ≤ v.timestamp x
   below_younger (here e) = rw e (omega arith)
   below_younger (down {a = a} {b = b} i p) = omega (arith, wf.older a b i, below_younger p)
 
-  pub below_used : {k x a : ℕ} → Used v a → Below v.children x k a → Used v x
+  pub below_used : {x k a : ℕ} → Used v a → Below v.children x k a → Used v x
   below_used u (here e) = rw e u
   below_used u (down {a = a} {b = b} i p) = below_used (wf.child_used a b i) p
 
   -- one level less, at the lower end
-  pub below_parent : {k x a : ℕ} → Below v.children x (suc k) a → Below v.children (v.parent x) k a
+  pub below_parent : {x k a : ℕ} → Below v.children x (suc k) a → Below v.children (v.parent x) k a
   below_parent {x} (down {a = a} {b = b} i (here e)) = here (ap v.parent e ∙ wf.child_parent a b i)
   below_parent (down i (down j p)) = down i (below_parent (down j p))
 
-  pub below_hung : {k x a : ℕ} → Below v.children x (suc k) a → x ∈ v.children (v.parent x)
+  pub below_hung : {x k a : ℕ} → Below v.children x (suc k) a → x ∈ v.children (v.parent x)
   below_hung {x} (down {a = a} {b = b} i (here e)) = rw (e, wf.child_parent a b i) i
   below_hung (down i (down j p)) = below_hung (down j p)
 

@@ -36,11 +36,11 @@ module _ (children : ℕ → List ℕ) where
       later (flat_map_to (under children f) x b (children a) i (under_to f j b x (omega arith) p))
 
   -- a way down of k levels passes k + 1 slots
-  under_deep : (k a x : ℕ) → Below children x k a → suc k ≤ length (under children (suc k) a)
+  under_deep : (x k a : ℕ) → Below children x k a → suc k ≤ length (under children (suc k) a)
   unfolding under
-  under_deep k a x (here e) = omega arith
-  under_deep k a x (down {k = j} {b = b} i p) =
-      omega (arith, part_length (flat_map_part (under children (suc j)) b (children a) i), under_deep j b x p)
+  under_deep x k a (here e) = omega arith
+  under_deep x k a (down {k = j} {b = b} i p) =
+      omega (arith, part_length (flat_map_part (under children (suc j)) b (children a) i), under_deep x j b p)
 
   -- levels enough: more change nothing
   pub under_enough : (f g a : ℕ) → Shallow children f a → Shallow children g a → under children f a ≡ under children g a
@@ -76,7 +76,7 @@ module _ {Sig : Type 0} {v : View Sig} {n root : ℕ} (wf : Formed v n root) whe
   pub used_shallow : (f a : ℕ) → Used v a → used_count v n ≤ f → Shallow v.children f a
   used_shallow f a u h k x p = omega (
     arith,
-    under_deep v.children k a x p,
+    under_deep v.children x k a p,
     used_at_most wf (under v.children (suc k) a) (under_distinct (suc k) a) (λ y. under_used (suc k) a y u),
   )
 
