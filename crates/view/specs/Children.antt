@@ -14,6 +14,7 @@ use Rattle.tree.specs.View.{Rising}
 -- ---- lists of slots, by place
 
 pub ∈_at : (l : List ℕ) (b : ℕ) → b ∈ l → (i : ℕ) × (i < length l) × (get_or l i 0 ≡ b)
+∈_at [] b x' = elim x' [ ]
 ∈_at (a ∷ l) b (first e) = (0, omega arith, sym e)
 ∈_at (a ∷ l) b (later j) = let z = ∈_at l b j in (suc z.0, omega (arith, z.1), z.2)
 
