@@ -6,12 +6,8 @@ use Rattle.places.specs.Cases.{either}
 use Rattle.places.specs.Choice.{pick}
 use Rattle.number.specs.Frame.{Bytes}
 use Rattle.descent.proofs.Descending.{still_here, few, walk_on, walk_ends, scanning, scanning_child, scanning_more}
-use Rattle.descent.proofs.descend.Goals.{After-children_of-n, Joined-e-near, then-e-near, else-e-near}
+use Rattle.descent.proofs.descend.Goals.{Joined-e-near, then-e-near, else-e-near}
 use Rattle.descent.proofs.descend.Goals as goal
-
--- the table's bytes with the radius raised
-bytes : (c : After-children_of-n) → Bytes c.raise.new.t
-bytes c k = (c.type_inv.t k).fits
 
 pub children_of-n-requires : goal.children_of-n-requires
 children_of-n-requires c =
@@ -77,13 +73,13 @@ loop-t-preserved c =
     let w = c.loop-t.invariant in
     let r = c.raise.ensures in
     let fit = c.requires.2 in
-    walk_on w r (bytes (goal.at.loop-t-preserved c).After-children_of-n) fit c.loop-k.invariant c.loop-k-test.false c.if-n-left.false
+    walk_on w r (λ k. (c.slice_known-in-loop-t-1.given k).fits) fit c.loop-k.invariant c.loop-k-test.false c.if-n-left.false
 
 pub returns : goal.returns
 returns c =
     let w = c.loop-t.invariant in
     let r = c.raise.ensures in
     let fit = c.requires.2 in (
-      walk_ends w r (bytes (goal.at.returns c).After-children_of-n) fit c.loop-k.invariant c.loop-k-test.false c.if-n-left.true,
+      walk_ends w r (λ k. (c.slice_known-in-loop-t-1.given k).fits) fit c.loop-k.invariant c.loop-k-test.false c.if-n-left.true,
       omega (arith, w.small, w.some, few w r, c.loop-k.invariant.count_is),
     )
