@@ -17,7 +17,9 @@ was b = record_of b.args.t.now b.args.s
 
 pub loop-i-init : goal.loop-i-init
 loop-i-init c =
-    let none = ap (with_slots (was (goal.at.loop-i-init c).Start)) (sym (cleared_none (was (goal.at.loop-i-init c).Start).slots)) in
+    let none =
+    ap (with_slots (was (goal.at.loop-i-init c).Start))
+    (sym (cleared_none (was (goal.at.loop-i-init c).Start).slots)) in
     (omega arith, refl, became_by (became_none c.args.t.now c.args.s c.requires) none refl)
 
 pub put_slot-requires : goal.put_slot-requires
@@ -33,16 +35,19 @@ loop-i-preserved c =
       became_by
           (wrote_then (λ r. with_slot r i no_slot) c.loop-i.invariant.2 c.requires
           (λ h. put_slot_lem c.loop-i.t c.args.s h i no_slot c.loop-i-test.true (omega arith)))
-          (ap (with_slots (was (goal.at.loop-i-preserved c).Start)) (cleared_more i (was (goal.at.loop-i-preserved c).Start).slots))
+          (ap (with_slots (was (goal.at.loop-i-preserved c).Start))
+          (cleared_more i (was (goal.at.loop-i-preserved c).Start).slots))
           c.put_slot.ensures,
     )
 
 pub returns : goal.returns
 returns c =
     let all : c.loop-i.i ≡ most_children = omega arith in
-    let made : cleared c.loop-i.i (was (goal.at.returns c).Start).slots ≡ cleared most_children (was (goal.at.returns c).Start).slots =
+    let made : cleared c.loop-i.i (was (goal.at.returns c).Start).slots ≡ cleared most_children
+    (was (goal.at.returns c).Start).slots =
     ap (λ (i : ℕ). cleared i (was (goal.at.returns c).Start).slots) all in
     became_by
     c.loop-i.invariant.2
-    (ap (with_slots (was (goal.at.returns c).Start)) (made ∙ cleared_all (was (goal.at.returns c).Start).slots (slots_length c.args.t.now c.args.s)))
+    (ap (with_slots (was (goal.at.returns c).Start)) (made
+    ∙ cleared_all (was (goal.at.returns c).Start).slots (slots_length c.args.t.now c.args.s)))
     refl

@@ -38,7 +38,8 @@ pub signature_at-requires : goal.signature_at-requires
 signature_at-requires c = omega (arith, (taken (goal.at.signature_at-requires c).Then-known_kind-whole).0)
 
 pub signature_at-requires-then-known_kind-whole : goal.signature_at-requires-then-known_kind-whole
-signature_at-requires-then-known_kind-whole c = omega (arith, (taken (goal.at.signature_at-requires-then-known_kind-whole c).Then-known_kind-whole).1)
+signature_at-requires-then-known_kind-whole c =
+    omega (arith, (taken (goal.at.signature_at-requires-then-known_kind-whole c).Then-known_kind-whole).1)
 
 pub returns-then-known_kind-whole : goal.returns-then-known_kind-whole
 unfolding distance_probe
@@ -50,4 +51,5 @@ returns-then-known_kind-whole c =
 
 pub returns-else-known_kind-whole : goal.returns-else-known_kind-whole
 unfolding distance_probe
-returns-else-known_kind-whole c = rw (tested (goal.at.returns-else-known_kind-whole c).After-known_kind false c.if-known_kind-whole.false)
+returns-else-known_kind-whole c =
+    rw (tested (goal.at.returns-else-known_kind-whole c).After-known_kind false c.if-known_kind-whole.false)

@@ -28,7 +28,8 @@ pub returns-then-card-eq0 : goal.returns-then-card-eq0
 unfolding slot_question
 returns-then-card-eq0 c =
     let a = c.args in
-    sym (asked_yes a.t.now (slot_question a.card) (admitted (goal.at.returns-then-card-eq0 c).Then-admit-eq-DONE) ∙ rw (eq-eqb _ _ c.if-card-eq0.true))
+    sym (asked_yes a.t.now (slot_question a.card) (admitted (goal.at.returns-then-card-eq0 c).Then-admit-eq-DONE)
+    ∙ rw (eq-eqb _ _ c.if-card-eq0.true))
 
 pub slot_of_card-requires : goal.slot_of_card-requires
 slot_of_card-requires c = stand_all c.args.t.now
@@ -48,7 +49,8 @@ unfolding slot_question
 returns-else-card-eq0 c =
     let a = c.args in
     c.slot_of_card.ensures
-    ∙ sym (asked_yes a.t.now (slot_question a.card) (admitted (goal.at.returns-else-card-eq0 c).Then-admit-eq-DONE) ∙ rw (ne_eqb _ _ c.if-card-eq0.false))
+    ∙ sym (asked_yes a.t.now (slot_question a.card) (admitted (goal.at.returns-else-card-eq0 c).Then-admit-eq-DONE)
+    ∙ rw (ne_eqb _ _ c.if-card-eq0.false))
 
 pub returns-else-admit-eq-DONE : goal.returns-else-admit-eq-DONE
 unfolding judge_probe

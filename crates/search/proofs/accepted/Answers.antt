@@ -75,11 +75,19 @@ walk-r-requires c =
 
 pub overflow_cast-result : goal.overflow_cast-result
 overflow_cast-result c =
-    omega (arith, (fits (goal.at.overflow_cast-result c).Else-used-eq0).0.1, ap (λ (z : State). z.count) (c.walk-r.ensures ∙ leaves (goal.at.overflow_cast-result c).Else-used-eq0))
+    omega (
+      arith,
+      (fits (goal.at.overflow_cast-result c).Else-used-eq0).0.1,
+      ap (λ (z : State). z.count) (c.walk-r.ensures ∙ leaves (goal.at.overflow_cast-result c).Else-used-eq0),
+    )
 
 pub overflow_cast-result-2 : goal.overflow_cast-result-2
 overflow_cast-result-2 c =
-    omega (arith, (fits (goal.at.overflow_cast-result-2 c).Else-used-eq0).1, ap (λ (z : State). z.found) (c.walk-r.ensures ∙ leaves (goal.at.overflow_cast-result-2 c).Else-used-eq0))
+    omega (
+      arith,
+      (fits (goal.at.overflow_cast-result-2 c).Else-used-eq0).1,
+      ap (λ (z : State). z.found) (c.walk-r.ensures ∙ leaves (goal.at.overflow_cast-result-2 c).Else-used-eq0),
+    )
 
 pub returns : goal.returns
 unfolding listing
