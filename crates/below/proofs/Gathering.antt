@@ -13,10 +13,6 @@ use Rattle.tree.specs.View.{under}
 use Rattle.age.specs.Key.{key_of}
 use Rattle.below.specs.Loop.Gather.{Gathered, slots_under, gathered}
 
-pub parts : {l l' : List ℕ} {a a' : ℕ} → l ≡ l' → a ≡ a'
-    → ◌≡◌ {A = Gathered} (record { keys = l; at = a }) (record { keys = l'; at = a' })
-parts p q = rw (p, q)
-
 module _ (R : ℕ → Record) where
   -- ---- the row of keys
 
@@ -43,10 +39,6 @@ module _ (R : ℕ → Record) where
         length-append xs ys,
         e,
       )
-
-  pub gathered_length : (keys : List ℕ) (m : ℕ) (ss : List ℕ) → length (gathered R keys m ss).keys ≡ length keys
-  unfolding gathered
-  gathered_length keys m ss = length-sets keys m (map (key_of R) ss)
 
   pub gathered_at : (keys : List ℕ) (m : ℕ) (ss : List ℕ) → (gathered R keys m ss).at ≡ m + length ss
   unfolding gathered

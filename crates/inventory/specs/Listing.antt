@@ -24,6 +24,7 @@ use Rattle.inventory.specs.Cards.{cards_in}
 
 -- the only element of a list
 alone : {x y : ℕ} → x ∈ (y ∷ []) → x ≡ y
+alone {y = y} (Memᴰ.tail x5) = elim x5 [ ]
 alone (first e) = e
 
 module _ (R : ℕ → Record) where

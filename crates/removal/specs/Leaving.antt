@@ -36,6 +36,7 @@ except_none v (a ∷ l) m = rw (ne_eqb a v (λ e. m (first (sym e))), except_non
 
 pub except_length : (v : ℕ) (l : List ℕ) → Distinct l → v ∈ l → length l ≡ suc (length (except v l))
 unfolding except
+except_length v [] p x'' = elim x'' [ ]
 except_length v (a ∷ l) p (first e) =
     rw (eq-eqb a v (sym e), except_none v l (λ i. p.0 (rw e at i)))
 except_length v (a ∷ l) p (later i) =

@@ -35,6 +35,7 @@ answered false b h = refl
 
 all_in_lem : (l : List ℕ) (p : ℕ → Bool) → all_in l p ≡ true → (x : ℕ) → x ∈ l → p x ≡ true
 unfolding all_in
+all_in_lem [] p h x x4 = elim x4 [ ]
 all_in_lem (a ∷ l) p h x (first e) = ap p e ∙ and_left (p a) (all_in l p) h
 all_in_lem (a ∷ l) p h x (later i) = all_in_lem l p (and_right (p a) (all_in l p) h) x i
 

@@ -1,7 +1,42 @@
 -- Loop: the largest timestamp among the records that stay. The slots that leave are marked, and the others looked
 -- through. Assumes nothing.
-use Rattle.std.specs.Prelude.{ℕ, zero, suc, ◌+◌, ◌≤◌, ◌<◌, max, ◌≡◌, refl, Bool, List, [], ◌∷◌, map, eqb, leb, length, get_or, set, drop, replicate}
-use Rattle.std.proofs.Common.{ap, ◌∙◌, arith, add-one, length-set, drop_of_length-le, get_or-set_same, get_or-set_other, drop-cons, eq-eqb, ne_eqb, le-leb}
+use Rattle.std.specs.Prelude.{
+  ℕ,
+  zero,
+  suc,
+  ◌+◌,
+  ◌≤◌,
+  ◌<◌,
+  max,
+  ◌≡◌,
+  refl,
+  Bool,
+  List,
+  [],
+  ◌∷◌,
+  map,
+  eqb,
+  leb,
+  length,
+  get_or,
+  set,
+  drop,
+  replicate,
+}
+use Rattle.std.proofs.Common.{
+  ap,
+  ◌∙◌,
+  arith,
+  add-one,
+  length-set,
+  drop_of_length-le,
+  get_or-set_same,
+  get_or-set_other,
+  drop-cons,
+  eq-eqb,
+  ne_eqb,
+  le-leb,
+}
 use mathlib.Core.List.Memᴰ
 use mathlib.Core.List.Memᴰ.{head as first}
 use mathlib.Core.List.Memᴰ.{tail as later}

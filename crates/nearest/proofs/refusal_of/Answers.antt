@@ -1,0 +1,61 @@
+-- `nearest::refusal_of` meets its contract: its branches are the tests in the paper's order, and each answers the first
+-- that holds. Assumes nothing.
+use Rattle.std.specs.Prelude.{ℕ, ◌≡◌, true, List}
+use Rattle.std.proofs.Common.{sym, ◌∙◌, arith}
+use Rattle.table.specs.Record.{record_of}
+use Rattle.table.specs.Table.{records_in}
+use Rattle.refusals.specs.Refusal.{first_of, done}
+use Rattle.survey.specs.Answers.{Answers}
+use Rattle.admission.specs.Admission.{Admits, admission_tests}
+use Rattle.admission.specs.Query.{other_kind, other_found_lem}
+use Rattle.nearest.specs.Nearest.{right_arguments}
+use Rattle.nearest.specs.Tests.{refusal_lent, refusal_argument, refusal_kind, refusal_short, refusal_none}
+use Rattle.nearest.proofs.refusal_of.Goals.{After-other_kind, Else-lent-ne-DONE, Else-not-right_arguments}
+use Rattle.nearest.proofs.refusal_of.Goals as goal
+
+admitted : (c : Else-lent-ne-DONE) (l : List ℕ) → Admits l c.args.lent → first_of (admission_tests l) ≡ done
+admitted c l a = sym a.refusal_is ∙ c.if-lent-ne-DONE.false
+
+answers : (c : Else-lent-ne-DONE) (l : List ℕ)
+    → Admits l c.args.lent
+    → Answers (records_in l) (record_of l) c.args.lent.found
+answers c l a = a.answers c.if-lent-ne-DONE.false
+
+known : (c : Else-not-right_arguments) →
+    let a = c.args in right_arguments a.kind a.signature.now a.k ≡ true
+known c = sym c.right_arguments.ensures ∙ c.if-not-right_arguments.false
+
+other : (c : After-other_kind) (l : List ℕ) →
+    Admits l c.args.lent → other_kind (records_in l) (record_of l) c.args.kind ≡ c.other_kind.result
+other c l a = sym (c.other_kind.ensures ∙ other_found_lem _ (answers (record { before = c.before.before.before.before.before; type_inv = record { signature = c.type_inv.signature } }) l a))
+
+pub returns-then-lent-ne-DONE : goal.returns-then-lent-ne-DONE
+returns-then-lent-ne-DONE c = λ l a.
+    let b = c.args in
+    refusal_lent l b.kind b.signature.now b.k b.room b.lent.refusal a.refusal_is c.if-lent-ne-DONE.true
+
+pub returns-then-not-right_arguments : goal.returns-then-not-right_arguments
+returns-then-not-right_arguments c = λ l a.
+    let b = c.args in
+    refusal_argument l b.kind b.signature.now b.k b.room (admitted (goal.at.returns-then-not-right_arguments c).Else-lent-ne-DONE l a)
+    (sym c.right_arguments.ensures ∙ c.if-not-right_arguments.true)
+
+pub returns-then-other_kind : goal.returns-then-other_kind
+returns-then-other_kind c = λ l a.
+    let b = c.args in
+    refusal_kind l b.kind b.signature.now b.k b.room (admitted (goal.at.returns-then-other_kind c).Else-lent-ne-DONE l a) (known (goal.at.returns-then-other_kind c).Else-not-right_arguments)
+    (other (goal.at.returns-then-other_kind c).After-other_kind l a ∙ c.if-other_kind.true)
+
+pub returns-then-room-k : goal.returns-then-room-k
+returns-then-room-k c = λ l a.
+    let b = c.args in
+    refusal_short l b.kind b.signature.now b.k b.room (admitted (goal.at.returns-then-room-k c).Else-lent-ne-DONE l a) (known (goal.at.returns-then-room-k c).Else-not-right_arguments)
+    (other (goal.at.returns-then-room-k c).After-other_kind l a ∙ c.if-other_kind.false)
+    (omega (arith, c.if-room-k.true))
+
+pub returns : goal.returns
+returns c = λ l a.
+    let b = c.args in
+    refusal_none l b.kind b.signature.now b.k b.room (admitted (goal.at.returns c).Else-lent-ne-DONE l a) (known (goal.at.returns c).Else-not-right_arguments)
+    (other (goal.at.returns c).After-other_kind l a ∙ c.if-other_kind.false)
+    (omega (arith, c.if-room-k.false))
