@@ -1,7 +1,6 @@
 -- `line::put_number` meets its contract. The falling number is n: first the digits of a tenth, then the last one behind
 -- them. Assumes nothing.
-use Rattle.std.proofs.Common.{◌+◌, ◌/◌, ◌≡◌, length, set, ap, ◌∙◌, arith}
-use Rattle.line.specs.Line.{decimal}
+use Rattle.std.proofs.Common.{set, ap, ◌∙◌, arith}
 use Rattle.line.specs.Decimal.{length_one, length_more}
 use Rattle.line.specs.Laws.{one_digit, last_digit}
 use Rattle.line.proofs.+put_number.Goals as goal
