@@ -10,8 +10,7 @@ use Rattle.insert.specs.Insert.{refusal_of}
 use Rattle.insert.specs.Groups.{refusal_first, refusal_own}
 use Rattle.insert.specs.Accepted.{accepted_signature}
 use Rattle.insert.proofs.Calling.{ends_refused, found_placeable, ends_placed}
-use Rattle.insert.proofs.call.insert.Goals.{After-admit-first, After-own_refusal-second, Else-first-ne-DONE}
-use Rattle.insert.proofs.call.insert.Goals.{Else-second-ne-DONE, Start}
+use Rattle.insert.proofs.call.insert.Goals.{After-admit-first, After-own_refusal-second, Else-first-ne-DONE, Else-second-ne-DONE, Start}
 use Rattle.insert.proofs.call.insert.Goals as goal
 
 abbrev refusal : Start → ℕ
@@ -20,19 +19,13 @@ refusal c = let a = c.args in refusal_of a.t.now a.card a.kind a.arity a.signatu
 admitted : (c : Else-first-ne-DONE) → first_of (admission_tests c.args.t.now) ≡ done
 admitted c = sym c.admit-first.ensures.refusal_is ∙ c.if-first-ne-DONE.false
 
-refusal_then : (c : After-own_refusal-second)
-    → refusal c.before.before.before.before.before.before.before.before ≡ c.own_refusal-second.result
+refusal_then : (c : After-own_refusal-second) → refusal c.before.before.before.before.before.before.before.before ≡ c.own_refusal-second.result
 refusal_then c = let a = c.args in
-    refusal_own a.t.now a.card a.kind a.arity a.signature.now (admitted (record {
-      before =
-          c.before.before.before;
-      type_inv = record { signature = c.type_inv.signature };
-    }))
+    refusal_own a.t.now a.card a.kind a.arity a.signature.now (admitted (record { before = c.before.before.before; type_inv = record { signature = c.type_inv.signature } }))
     ∙ sym c.own_refusal-second.ensures
 
 accepted : (c : Else-second-ne-DONE) → refusal c.before.before.before.before.before.before.before.before.before ≡ done
-accepted c = refusal_then (record { before = c.before.before; type_inv = record { signature = c.type_inv.signature } })
-    ∙ c.if-second-ne-DONE.false
+accepted c = refusal_then (record { before = c.before.before; type_inv = record { signature = c.type_inv.signature } }) ∙ c.if-second-ne-DONE.false
 
 signature_bytes : (c : After-admit-first) → Bytes c.args.signature.now
 signature_bytes c i = (c.type_inv.signature i).fits
@@ -54,10 +47,8 @@ returns-then-first-ne-DONE c =
 
 pub own_refusal-second-requires : goal.own_refusal-second-requires
 own_refusal-second-requires c =
-    let l = c.args.t.now in (
-      right_are l (admitted_readable l (admitted (goal.at.own_refusal-second-requires c).Else-first-ne-DONE)).size,
-      c.admit-first.ensures.answers c.if-first-ne-DONE.false,
-    )
+    let l = c.args.t.now in
+    (right_are l (admitted_readable l (admitted (goal.at.own_refusal-second-requires c).Else-first-ne-DONE)).size, c.admit-first.ensures.answers c.if-first-ne-DONE.false)
 
 pub returns-then-second-ne-DONE : goal.returns-then-second-ne-DONE
 returns-then-second-ne-DONE c =
@@ -75,11 +66,7 @@ returns-then-second-ne-DONE c =
 pub signature_at-requires : goal.signature_at-requires
 signature_at-requires c =
     let a = c.args in
-    omega (
-      arith,
-      accepted_signature a.t.now a.card a.kind a.arity a.signature.now
-          (accepted (goal.at.signature_at-requires c).Else-second-ne-DONE),
-    )
+    omega (arith, accepted_signature a.t.now a.card a.kind a.arity a.signature.now (accepted (goal.at.signature_at-requires c).Else-second-ne-DONE))
 
 pub place-requires : goal.place-requires
 place-requires c =
