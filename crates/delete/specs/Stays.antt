@@ -16,7 +16,7 @@ use Rattle.survey.specs.Survey.{used_in, root_of, kind_of, largest_timestamp}
 use Rattle.survey.specs.Laws.{used_in_most}
 use Rattle.tree.specs.Slots.{◌∈◌, ∈_decide, image_to}
 use Rattle.tree.specs.View.Count.{used_at_most}
-use Rattle.tree.specs.Remove.Count.{removed_used_count}
+use Rattle.tree.proofs.Remove.Count.{removed_used_count}
 use Rattle.view.specs.Children.{at_∈}
 use Rattle.view.specs.Survey.{used_in_used_count}
 use Rattle.view.specs.Freed.{freed_at, freed_same}

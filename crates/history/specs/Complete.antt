@@ -28,9 +28,9 @@ use Rattle.admission.specs.Query.{known_query, other_kind}
 use Rattle.tree.specs.Slots.{◌∈◌}
 use Rattle.tree.specs.View.{Formed}
 use Rattle.tree.specs.Search.{visit}
-use Rattle.tree.specs.Search.Finds.{listed_from}
-use Rattle.tree.specs.Search.Needed.{entered_sound}
-use Rattle.tree.specs.Search.Once.{visit_used}
+use Rattle.tree.proofs.Search.Finds.{listed_from}
+use Rattle.tree.proofs.Search.Needed.{entered_sound}
+use Rattle.tree.proofs.Search.Once.{visit_used}
 use Rattle.view.specs.View.{view_of}
 use Rattle.view.specs.Survey.{kind_of_is}
 use Rattle.view.specs.Formed.{used_within}

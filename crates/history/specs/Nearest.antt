@@ -23,7 +23,7 @@ use Rattle.tree.specs.Sorted.Laws.{Ascends, Orders, sort_by_from, sort_by_to, so
 use Rattle.tree.specs.Sorted.Laws.{put_by_ascends, sort_by_ascends, ascends_same}
 use Rattle.tree.specs.View.Count.{used_slots, used_slots_from, used_slots_to, used_slots_distinct, used_slots_length}
 use Rattle.tree.specs.Nearest.{nearer, nearest_first}
-use Rattle.tree.specs.Nearest.Order.{ahead_orders}
+use Rattle.tree.proofs.Nearest.Order.{ahead_orders}
 use Rattle.view.specs.View.{view_of}
 use Rattle.view.specs.Survey.{used_in_used_count}
 use Rattle.newcomer.specs.Newcomer.{Newcomer, brought}

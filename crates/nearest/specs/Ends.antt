@@ -15,7 +15,7 @@ use Rattle.table.specs.Fitting.{record_fits}
 use Rattle.survey.specs.Survey.{used_in, root_of}
 use Rattle.survey.specs.Laws.{used_in_most}
 use Rattle.judge.specs.Readable.{Readable}
-use Rattle.tree.specs.Nearest.Lean.Same.{lean_held, lean_count}
+use Rattle.tree.proofs.Nearest.Lean.Same.{lean_held, lean_count}
 use Rattle.view.specs.Survey.{used_in_used_count}
 use Rattle.view.specs.Readable.{readable_root}
 use Rattle.steps.specs.Step.{away_from}

@@ -16,7 +16,7 @@ use Rattle.tree.specs.Sorted.{sort_by}
 use Rattle.tree.specs.View.{Formed, distance_count, compared}
 use Rattle.tree.specs.View.Count.{compared_used}
 use Rattle.tree.specs.Nearest.{held, taken}
-use Rattle.tree.specs.Nearest.Fuel.{taken_count}
+use Rattle.tree.proofs.Nearest.Fuel.{taken_count}
 use Rattle.view.specs.View.{view_of}
 use Rattle.view.specs.Survey.{used_in_used_count}
 use Rattle.waiting.specs.Same.{Given}

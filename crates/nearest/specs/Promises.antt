@@ -21,8 +21,8 @@ use Rattle.tree.specs.Slots.{◌∈◌, Distinct}
 use Rattle.tree.specs.View.{Formed, Sound}
 use Rattle.tree.specs.View.Count.{used_slots, used_slots_length, distance_count_compared}
 use Rattle.tree.specs.Nearest.{Takes, at_first, held, nearer, nearest_first}
-use Rattle.tree.specs.Nearest.Fuel.{taken_obeys, taken_only, taken_compared_distinct}
-use Rattle.tree.specs.Nearest.Finds.{held_nearest}
+use Rattle.tree.proofs.Nearest.Fuel.{taken_obeys, taken_only, taken_compared_distinct}
+use Rattle.tree.proofs.Nearest.Finds.{held_nearest}
 use Rattle.tree.specs.Sorted.Laws.{sort_by_length}
 use Rattle.view.specs.View.{view_of}
 use Rattle.view.specs.Sound.{SoundTable}

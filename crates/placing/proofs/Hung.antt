@@ -19,8 +19,8 @@ use Rattle.writing.specs.Laws.{Became}
 use Rattle.tree.specs.Slots.{◌∈◌}
 use Rattle.tree.specs.View.{distance_count}
 use Rattle.tree.specs.Insert.{path, last}
-use Rattle.tree.specs.Insert.Path.{last_∈}
-use Rattle.tree.specs.Insert.Same.{path_in}
+use Rattle.tree.proofs.Insert.Path.{last_∈}
+use Rattle.tree.proofs.Insert.Same.{path_in}
 use Rattle.view.specs.View.{view_of}
 use Rattle.view.specs.Children.{children_at}
 use Rattle.newcomer.specs.Newcomer.{brought, brought_is, Newcomer, fresh, adopting}

@@ -13,8 +13,8 @@ use Rattle.survey.specs.Survey.{used_in, root_of}
 use Rattle.survey.specs.Laws.{used_in_most}
 use Rattle.places.specs.Cases.{either}
 use Rattle.tree.specs.Insert.{path, last, attach}
-use Rattle.tree.specs.Insert.Path.{attach_∈}
-use Rattle.tree.specs.Insert.Same.{path_same, path_in}
+use Rattle.tree.proofs.Insert.Path.{attach_∈}
+use Rattle.tree.proofs.Insert.Same.{path_same, path_in}
 use Rattle.view.specs.View.{view_of}
 use Rattle.view.specs.Shaped.{Shaped}
 use Rattle.view.specs.Children.{children_length}

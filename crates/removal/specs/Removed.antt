@@ -15,9 +15,9 @@ use Rattle.survey.specs.Survey.{used_in, root_of, kind_of}
 use Rattle.tree.specs.Slots.{◌∈◌, ∈_decide}
 use Rattle.tree.specs.View.{Formed}
 use Rattle.tree.specs.Remove.{Removed}
-use Rattle.tree.specs.Remove.After.{except_from}
-use Rattle.tree.specs.Remove.KeepsFormed.{removed_formed, removed_root}
-use Rattle.tree.specs.Remove.KeepsSound.{removed_sound}
+use Rattle.tree.proofs.Remove.After.{except_from}
+use Rattle.tree.proofs.Remove.KeepsFormed.{removed_formed, removed_root}
+use Rattle.tree.proofs.Remove.KeepsSound.{removed_sound}
 use Rattle.view.specs.View.{view_of}
 use Rattle.view.specs.Shaped.{Shaped}
 use Rattle.survey.specs.Laws.{used_in_seen, used_in_some}

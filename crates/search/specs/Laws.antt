@@ -12,9 +12,9 @@ use Rattle.survey.specs.Survey.{used_in, root_of}
 use Rattle.tree.specs.Slots.{◌∈◌, Distinct}
 use Rattle.tree.specs.View.{Formed, Sound, Late, compared}
 use Rattle.tree.specs.View.Count.{distance_count_compared}
-use Rattle.tree.specs.Search.Once.{visit_compared_distinct}
-use Rattle.tree.specs.Search.Wider.{count_wider}
-use Rattle.tree.specs.Search.Finds.{listed_once, listed_iff}
+use Rattle.tree.proofs.Search.Once.{visit_compared_distinct}
+use Rattle.tree.proofs.Search.Wider.{count_wider}
+use Rattle.tree.proofs.Search.Finds.{listed_once, listed_iff}
 use Rattle.view.specs.View.{view_of}
 use Rattle.refusals.specs.Refusal.{done}
 use Rattle.view.specs.Survey.{used_in_used_count}

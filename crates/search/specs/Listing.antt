@@ -21,8 +21,8 @@ use Rattle.tree.specs.Slots.{keep}
 use Rattle.tree.specs.View.{View, Formed, Late, used_count, distance_count}
 use Rattle.tree.specs.View.Count.{used_at_most}
 use Rattle.tree.specs.Search.{visit, listed}
-use Rattle.tree.specs.Search.Once.{visit_distinct, visit_used, visit_count}
-use Rattle.tree.specs.Search.Turn.{visit_from_farthest}
+use Rattle.tree.proofs.Search.Once.{visit_distinct, visit_used, visit_count}
+use Rattle.tree.proofs.Search.Turn.{visit_from_farthest}
 use Rattle.view.specs.View.{view_of}
 use Rattle.refusals.specs.Refusal.{done}
 use Rattle.view.specs.Survey.{used_in_used_count}

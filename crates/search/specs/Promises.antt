@@ -15,7 +15,7 @@ use Rattle.survey.specs.Survey.{used_in, root_of}
 use Rattle.tree.specs.Slots.{◌∈◌, Distinct}
 use Rattle.tree.specs.View.{Formed, Late, used_count}
 use Rattle.tree.specs.Search.{IsWalk, walk}
-use Rattle.tree.specs.Search.Fuel.{walk_obeys, walk_only, visit_unbounded}
+use Rattle.tree.proofs.Search.Fuel.{walk_obeys, walk_only, visit_unbounded}
 use Rattle.view.specs.View.{view_of}
 use Rattle.refusals.specs.Refusal.{done}
 use Rattle.view.specs.Formed.{used_within}

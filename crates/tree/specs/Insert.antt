@@ -3,13 +3,6 @@
 use Rattle.std.specs.Prelude.{ℕ, suc, zero, ◌≤◌, ◌<◌, max, Bool, ◌&&◌, not, cond, ◌≡◌, List, [], ◌∷◌, ◌++◌, ltb, length}
 use Rattle.tree.specs.Slots.{◌∈◌, keep}
 use Rattle.tree.specs.View.{View, Used, Late, away, used_count}
-pub mod Path
-pub mod Same
-pub mod After
-pub mod KeepsFormed
-pub mod KeepsSound
-pub mod First
-pub mod Fuel
 
 -- the last of a and what follows it
 unfoldable pub last : ℕ → List ℕ → ℕ

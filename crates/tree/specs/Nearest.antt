@@ -4,12 +4,6 @@ use Rattle.std.specs.Prelude.{ℕ, suc, zero, ◌+◌, ◌-◌, ◌/◌, min, ma
 use Rattle.std.specs.Prelude.{◌∷◌, eqb, ltb, length, get_or, take}
 use Rattle.tree.specs.Sorted.{put_by, sort_by}
 use Rattle.tree.specs.View.{View, away, compared, used_count}
-pub mod Order
-pub mod Wait
-pub mod Once
-pub mod Fuel
-pub mod Lower
-pub mod Finds
 pub mod Lean
 
 -- "Compared records wait": a record's slot, and its lower bound

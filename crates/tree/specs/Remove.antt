@@ -2,10 +2,6 @@
 use Rattle.std.specs.Prelude.{ℕ, cond, ◌≡◌, List, [], ◌∷◌, eqb}
 use Rattle.tree.specs.Slots.{◌∈◌}
 use Rattle.tree.specs.View.{View, Used, Below}
-pub mod After
-pub mod KeepsFormed
-pub mod KeepsSound
-pub mod Count
 
 -- "the parent's later children move up one place": the list without b
 unfoldable pub except : ℕ → List ℕ → List ℕ

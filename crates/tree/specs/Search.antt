@@ -3,11 +3,6 @@
 use Rattle.std.specs.Prelude.{ℕ, suc, zero, ◌+◌, ◌*◌, min, Bool, true, false, ◌&&◌, ◌≡◌, List, [], ◌∷◌, ◌++◌, leb, ltb}
 use Rattle.tree.specs.Slots.{keep}
 use Rattle.tree.specs.View.{View, Used, away, used_count}
-pub mod Once
-pub mod Wider
-pub mod Finds
-pub mod Needed
-pub mod Fuel
 pub mod Turn
 
 -- the smaller of the two if the test holds, and the second if not

@@ -12,7 +12,7 @@ use Rattle.distance.specs.Kind.{apart}
 use Rattle.tree.specs.View.{child_counts}
 use Rattle.tree.specs.View.Count.{child_counts_append}
 use Rattle.tree.specs.Search.{listed}
-use Rattle.tree.specs.Search.Finds.{listed_append}
+use Rattle.tree.proofs.Search.Finds.{listed_append}
 use Rattle.view.specs.View.{view_of}
 use Rattle.walk.specs.declared.Reached.{Reached}
 use Rattle.steps.specs.Step.{Query, away_in, card_within}

@@ -24,7 +24,7 @@ use Rattle.survey.specs.Laws.{used_in_most}
 use Rattle.tree.specs.Slots.{◌∈◌, ∈_decide}
 use Rattle.tree.specs.View.{Formed}
 use Rattle.tree.specs.Insert.{path, last, attach}
-use Rattle.tree.specs.Insert.Path.{path_count, attach_∈}
+use Rattle.tree.proofs.Insert.Path.{path_count, attach_∈}
 use Rattle.view.specs.View.{view_of}
 use Rattle.view.specs.Survey.{used_in_used_count}
 use Rattle.view.specs.Formed.{formed_view}

@@ -16,7 +16,7 @@ use Rattle.table.specs.Table.{at}
 use Rattle.tree.specs.Slots.{keep}
 use Rattle.tree.specs.View.{View, away, child_counts, distance_count}
 use Rattle.tree.specs.Insert.{nearest, hangs, onward, path, last}
-use Rattle.tree.specs.Insert.Same.{path_same, count_same}
+use Rattle.tree.proofs.Insert.Same.{path_same, count_same}
 use Rattle.view.specs.View.{view_of}
 use Rattle.newcomer.specs.Newcomer.{raised}
 use Rattle.descent.specs.Descent.{raised_along, Descended, descent, descended}

@@ -16,8 +16,8 @@ use Rattle.table.specs.Table.{at}
 use Rattle.tree.specs.Slots.{◌∈◌}
 use Rattle.tree.specs.View.{distance_count}
 use Rattle.tree.specs.Insert.{path, last, attach}
-use Rattle.tree.specs.Insert.Path.{attach_∈}
-use Rattle.tree.specs.Insert.Same.{path_same, path_in, count_same}
+use Rattle.tree.proofs.Insert.Path.{attach_∈}
+use Rattle.tree.proofs.Insert.Same.{path_same, path_in, count_same}
 use Rattle.view.specs.View.{view_of}
 use Rattle.placing.specs.Place.Row.{along_length}
 use Rattle.descent.specs.Descent.{raised_along}

@@ -15,9 +15,9 @@ use Rattle.tree.specs.Slots.{◌∈◌}
 use Rattle.places.specs.Cases.{either}
 use Rattle.tree.specs.View.{Formed, Sound, Late, used_count}
 use Rattle.tree.specs.Insert.{Fresh, Inserted, path, attach}
-use Rattle.tree.specs.Insert.Path.{path_used, attach_used}
-use Rattle.tree.specs.Insert.KeepsFormed.{inserted_formed}
-use Rattle.tree.specs.Insert.KeepsSound.{inserted_sound}
+use Rattle.tree.proofs.Insert.Path.{path_used, attach_used}
+use Rattle.tree.proofs.Insert.KeepsFormed.{inserted_formed}
+use Rattle.tree.proofs.Insert.KeepsSound.{inserted_sound}
 use Rattle.view.specs.View.{view_of}
 use Rattle.view.specs.Shaped.{Shaped}
 use Rattle.view.specs.Children.{children_length}

@@ -15,7 +15,7 @@ use Rattle.tree.specs.View.{View, away, here, down, Shallow, Formed, used_count}
 use Rattle.tree.specs.View.Shape.{shallow_some, shallow_child}
 use Rattle.tree.specs.View.Under.{used_shallow}
 use Rattle.tree.specs.Insert.{last, nearest, hangs, onward, path, attach}
-use Rattle.tree.specs.Insert.Path.{nearest_∈}
+use Rattle.tree.proofs.Insert.Path.{nearest_∈}
 
 module _ {Sig : Type 0} (d : Sig → Sig → ℕ) (v : View Sig) (x : Sig) (arity : ℕ) where
   -- a has no child, or fewer than the arity

@@ -14,7 +14,7 @@ use Rattle.judge.specs.WellFormed.{Filled}
 use Rattle.survey.specs.Survey.{used_in}
 use Rattle.tree.specs.View.{Sound}
 use Rattle.tree.specs.Insert.{Alone}
-use Rattle.tree.specs.Insert.First.{alone_formed, alone_sound}
+use Rattle.tree.proofs.Insert.First.{alone_formed, alone_sound}
 use Rattle.view.specs.View.{view_of}
 use Rattle.view.specs.Shaped.{Shaped}
 use Rattle.view.specs.Formed.{none_used, formed_table}

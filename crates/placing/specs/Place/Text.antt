@@ -8,7 +8,7 @@ use Rattle.table.specs.Table.{at}
 use Rattle.survey.specs.Survey.{used_in, root_of, largest_timestamp}
 use Rattle.tree.specs.View.{Formed, used_count}
 use Rattle.tree.specs.Insert.{IsWalk, walk, last, attach}
-use Rattle.tree.specs.Insert.Fuel.{walk_obeys, walk_only}
+use Rattle.tree.proofs.Insert.Fuel.{walk_obeys, walk_only}
 use Rattle.view.specs.View.{view_of}
 use Rattle.view.specs.Formed.{formed_view}
 use Rattle.newcomer.specs.Newcomer.{Newcomer}

@@ -4,10 +4,6 @@ use Rattle.std.specs.Prelude.{ℕ, suc, zero, Bool, ◌||◌, cond, List, [], �
 use Rattle.tree.specs.Sorted.{put_by}
 use Rattle.tree.specs.View.{View}
 use Rattle.tree.specs.Nearest.{Waiting, waiting, lower_bound, sooner, is_over}
-pub mod Over
-pub mod Leaner
-pub mod Met
-pub mod Same
 
 -- how far the work has come: those that wait, and the slots compared, the last one first
 pub record Work : Type 0 where

@@ -11,8 +11,8 @@ use Rattle.tree.specs.Slots.{◌∈◌, Distinct}
 use Rattle.tree.specs.View.{View, Used, Formed, used_count, compared, distance_count}
 use Rattle.tree.specs.View.Count.{compared_used, used_at_most}
 use Rattle.tree.specs.Nearest.{Waiting, wait, is_over, at_first, Takes, none_waits, over, takes, taken_from, taken}
-use Rattle.tree.specs.Nearest.Once.{Going, going_first, going_on, next_used, next_new}
-use Rattle.tree.specs.Nearest.Once.{takes_distinct, takes_used, takes_compared_distinct, takes_count}
+use Rattle.tree.proofs.Nearest.Once.{Going, going_first, going_on, next_used, next_new}
+use Rattle.tree.proofs.Nearest.Once.{takes_distinct, takes_used, takes_compared_distinct, takes_count}
 
 module _ {Sig : Type 0} (d : Sig → Sig → ℕ) (v : View Sig) (q : Sig) (k root : ℕ) where
   -- the paper's text has one end

@@ -14,7 +14,7 @@ use Rattle.tree.specs.Sorted.{put_by}
 use Rattle.tree.specs.Sorted.Laws.{Ascends, put_by_from, put_by_to, put_by_distinct, put_by_ascends}
 use Rattle.tree.specs.View.{View, Used, Rising, Formed}
 use Rattle.tree.specs.Nearest.{Waiting, waiting, sooner, lower_bound, wait}
-use Rattle.tree.specs.Nearest.Order.{Ahead, ahead_first, sooner_reads, sooner_orders}
+use Rattle.tree.proofs.Nearest.Order.{Ahead, ahead_first, sooner_reads, sooner_orders}
 
 abbrev pub slot_of : Waiting → ℕ
 slot_of w = w.slot

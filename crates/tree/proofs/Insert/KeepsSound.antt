@@ -10,8 +10,8 @@ use Rattle.places.specs.Cases.{either}
 use Rattle.tree.specs.View.{View, Used, away, Below, here, down, Formed, Sound}
 use Rattle.tree.specs.View.Shape.{below_used}
 use Rattle.tree.specs.Insert.{Fresh, Inserted, path, attach}
-use Rattle.tree.specs.Insert.Path.{path_from, attach_∈}
-use Rattle.tree.specs.Insert.After.{fresh_child, inserted_child, inserted_upper, inserted_below, inserted_radius}
+use Rattle.tree.proofs.Insert.Path.{path_from, attach_∈}
+use Rattle.tree.proofs.Insert.After.{fresh_child, inserted_child, inserted_upper, inserted_below, inserted_radius}
 
 module _ {Sig : Type 0} {d : Sig → Sig → ℕ} {v w : View Sig} {n root c s t : ℕ} {x : Sig} (arity f : ℕ) (some : 0 < f)
     (wf : Formed v n root) (new : Fresh v n s c t)

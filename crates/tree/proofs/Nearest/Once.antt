@@ -15,8 +15,8 @@ use Rattle.tree.specs.View.{View, Used, Formed, used_count, compared, distance_c
 use Rattle.tree.specs.View.Shape.{children_distinct}
 use Rattle.tree.specs.View.Count.{compared_distinct, compared_used, distance_count_at_most}
 use Rattle.tree.specs.Nearest.{Waiting, lower_bound, wait, is_over, at_first, Takes, none_waits, over, takes}
-use Rattle.tree.specs.Nearest.Wait.{InRow, row_rest, next_bound, slot_of, slots, wait_keeps, wait_adds, wait_row}
-use Rattle.tree.specs.Nearest.Wait.{children_from, children_slots_from}
+use Rattle.tree.proofs.Nearest.Wait.{InRow, row_rest, next_bound, slot_of, slots, wait_keeps, wait_adds, wait_row}
+use Rattle.tree.proofs.Nearest.Wait.{children_from, children_slots_from}
 
 -- ---- the records compared
 

@@ -23,11 +23,11 @@ use Rattle.tree.specs.View.Shape.{below_root}
 use Rattle.tree.specs.View.Count.{used_slots, used_slots_to, used_slots_from, used_slots_distinct}
 use Rattle.tree.specs.View.Count.{compared_distinct, compared_used}
 use Rattle.tree.specs.Nearest.{Waiting, nearer, nearest_first, wait, held, is_over, at_first, Takes, taken}
-use Rattle.tree.specs.Nearest.Order.{nearer_holds, nearer_orders}
-use Rattle.tree.specs.Nearest.Wait.{InRow, slot_of, next_bound, children_from}
-use Rattle.tree.specs.Nearest.Once.{Going, going_first, going_on, Ended, takes_end}
-use Rattle.tree.specs.Nearest.Fuel.{taken_obeys}
-use Rattle.tree.specs.Nearest.Lower.{lower_below, lower_root}
+use Rattle.tree.proofs.Nearest.Order.{nearer_holds, nearer_orders}
+use Rattle.tree.proofs.Nearest.Wait.{InRow, slot_of, next_bound, children_from}
+use Rattle.tree.proofs.Nearest.Once.{Going, going_first, going_on, Ended, takes_end}
+use Rattle.tree.proofs.Nearest.Fuel.{taken_obeys}
+use Rattle.tree.proofs.Nearest.Lower.{lower_below, lower_root}
 
 -- ---- every used record is compared, or stands strictly below one that waits
 

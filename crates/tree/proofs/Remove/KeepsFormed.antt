@@ -8,7 +8,7 @@ use Rattle.tree.specs.Slots.{◌∈◌}
 use Rattle.tree.specs.View.{View, Used, Free, Below, here, Rising, Formed}
 use Rattle.tree.specs.View.Shape.{below_child, below_hung, below_root, rising_same}
 use Rattle.tree.specs.Remove.{except, Removed}
-use Rattle.tree.specs.Remove.After.{except_to, except_rising, removed_child}
+use Rattle.tree.proofs.Remove.After.{except_to, except_rising, removed_child}
 
 module _ {Sig : Type 0} {v w : View Sig} {n root b : ℕ} (wf : Formed v n root) (gone : Removed v w b)
     (not_root : b ≡ root → ⊥) where

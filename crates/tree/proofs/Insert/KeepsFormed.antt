@@ -11,9 +11,9 @@ use Rattle.places.specs.Cases.{either}
 use Rattle.tree.specs.View.{View, Used, Rising, Formed}
 use Rattle.tree.specs.View.Shape.{rising_same}
 use Rattle.tree.specs.Insert.{Fresh, Inserted, path, attach}
-use Rattle.tree.specs.Insert.Path.{attach_used}
-use Rattle.tree.specs.Insert.After.{fresh_slot, fresh_child, inserted_child, inserted_child_old}
-use Rattle.tree.specs.Insert.After.{inserted_new_used, inserted_old_used, inserted_used_cases}
+use Rattle.tree.proofs.Insert.Path.{attach_used}
+use Rattle.tree.proofs.Insert.After.{fresh_slot, fresh_child, inserted_child, inserted_child_old}
+use Rattle.tree.proofs.Insert.After.{inserted_new_used, inserted_old_used, inserted_used_cases}
 
 -- a later one at the end
 rising_last : (timestamp : ℕ → ℕ) (l : List ℕ) (s : ℕ) → Rising timestamp l

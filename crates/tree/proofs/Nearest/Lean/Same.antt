@@ -18,13 +18,13 @@ use Rattle.tree.specs.View.Shape.{children_distinct}
 use Rattle.tree.specs.View.Count.{used_at_most}
 use Rattle.tree.specs.Nearest.{Waiting, waiting, lower_bound, wait, held, is_over, at_first, taken}
 use Rattle.tree.specs.Nearest.{Takes, none_waits, over, takes}
-use Rattle.tree.specs.Nearest.Wait.{row_rest, next_is_least}
-use Rattle.tree.specs.Nearest.Once.{Going, going_first, going_on, child_new}
-use Rattle.tree.specs.Nearest.Fuel.{taken_obeys, taken_distinct, taken_used}
+use Rattle.tree.proofs.Nearest.Wait.{row_rest, next_is_least}
+use Rattle.tree.proofs.Nearest.Once.{Going, going_first, going_on, child_new}
+use Rattle.tree.proofs.Nearest.Fuel.{taken_obeys, taken_distinct, taken_used}
 use Rattle.tree.specs.Nearest.Lean.{Work, work, is_idle, meet, meets, onward, goes_on, begins}
-use Rattle.tree.specs.Nearest.Lean.Over.{over_farther}
-use Rattle.tree.specs.Nearest.Lean.Leaner.{Leaner, none, both, only, AsFar, leaner_∈, meet_far, meets_far}
-use Rattle.tree.specs.Nearest.Lean.Met.{Met, met_held, met_over, met_count, met_next}
+use Rattle.tree.proofs.Nearest.Lean.Over.{over_farther}
+use Rattle.tree.proofs.Nearest.Lean.Leaner.{Leaner, none, both, only, AsFar, leaner_∈, meet_far, meets_far}
+use Rattle.tree.proofs.Nearest.Lean.Met.{Met, met_held, met_over, met_count, met_next}
 
 -- ---- the lean work alone
 

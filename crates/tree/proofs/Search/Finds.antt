@@ -21,7 +21,7 @@ use Rattle.tree.specs.View.{View, Used, Late, away, Below, here, down, Rising, F
 use Rattle.tree.specs.View.Shape.{below_younger, below_root, siblings_timestamp}
 use Rattle.tree.specs.View.Under.{used_shallow}
 use Rattle.tree.specs.Search.{least, enters, is_visited, bound, turn, visit, listed}
-use Rattle.tree.specs.Search.Once.{visit_distinct, visit_used}
+use Rattle.tree.proofs.Search.Once.{visit_distinct, visit_used}
 
 least_above : (b : Bool) (x m n : ℕ) → (b ≡ true → x < m) → x < n → x < least b m n
 unfolding least

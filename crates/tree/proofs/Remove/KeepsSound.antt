@@ -3,7 +3,7 @@
 use Rattle.std.specs.Prelude.{ℕ, ◌<◌}
 use Rattle.tree.specs.View.{View, Formed, Sound}
 use Rattle.tree.specs.Remove.{Removed}
-use Rattle.tree.specs.Remove.After.{removed_child, removed_below}
+use Rattle.tree.proofs.Remove.After.{removed_child, removed_below}
 
 pub removed_sound : {Sig : Type 0} {d : Sig → Sig → ℕ} {v w : View Sig} {n root b : ℕ} → Formed v n root → Removed v w b
     → Sound d v → Sound d w

@@ -12,10 +12,10 @@ use Rattle.tree.specs.Sorted.{put_by}
 use Rattle.tree.specs.Sorted.Laws.{Ascends}
 use Rattle.tree.specs.View.{View, Used, Formed}
 use Rattle.tree.specs.Nearest.{Waiting, waiting, lower_bound, sooner, is_over, wait}
-use Rattle.tree.specs.Nearest.Order.{sooner_orders}
-use Rattle.tree.specs.Nearest.Wait.{InRow, slots, put_row, put_from}
+use Rattle.tree.proofs.Nearest.Order.{sooner_orders}
+use Rattle.tree.proofs.Nearest.Wait.{InRow, slots, put_row, put_from}
 use Rattle.tree.specs.Nearest.Lean.{Work, is_idle, meet, meets}
-use Rattle.tree.specs.Nearest.Lean.Over.{over_more}
+use Rattle.tree.proofs.Nearest.Lean.Over.{over_more}
 
 -- xs are ws with some left out that are idle, where those of cs were compared
 pub data Leaner {Sig : Type 0} (d : Sig → Sig → ℕ) (v : View Sig) (q : Sig) (k : ℕ) (cs : List ℕ)

@@ -13,7 +13,7 @@ use Rattle.std.proofs.Math.ListN.{length}
 use Rattle.tree.specs.Slots.{◌∈◌, keep_from}
 use Rattle.tree.specs.View.{View, away, child_counts, distance_count}
 use Rattle.tree.specs.Insert.{nearest, hangs, onward, path}
-use Rattle.tree.specs.Insert.Path.{cond_∈, nearest_∈}
+use Rattle.tree.proofs.Insert.Path.{cond_∈, nearest_∈}
 
 module _ {Sig : Type 0} (d : Sig → Sig → ℕ) (v w : View Sig) (x : Sig) (arity : ℕ) (In : ℕ → Type 0)
     (closed : (a b : ℕ) → In a → b ∈ v.children a → In b)

@@ -18,7 +18,7 @@ use Rattle.tree.specs.Sorted.Front.{take_last}
 use Rattle.tree.specs.Sorted.Laws.{Ascends, put_by_length, sort_by_ascends}
 use Rattle.tree.specs.View.{View, Used, away, Formed}
 use Rattle.tree.specs.Nearest.{nearer, nearest_first, held, is_over}
-use Rattle.tree.specs.Nearest.Order.{nearer_reads, nearer_holds, nearer_orders}
+use Rattle.tree.proofs.Nearest.Order.{nearer_reads, nearer_holds, nearer_orders}
 
 -- ---- the k-th distance, of slots in order
 

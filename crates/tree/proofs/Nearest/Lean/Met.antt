@@ -14,8 +14,8 @@ use Rattle.tree.specs.Sorted.Laws.{sorted_same}
 use Rattle.tree.specs.View.{View, Formed, compared, distance_count}
 use Rattle.tree.specs.View.Count.{compared_distinct, compared_used, distance_count_compared}
 use Rattle.tree.specs.Nearest.{held, is_over}
-use Rattle.tree.specs.Nearest.Order.{nearer_orders}
-use Rattle.tree.specs.Nearest.Once.{compared_more, compared_less}
+use Rattle.tree.proofs.Nearest.Order.{nearer_orders}
+use Rattle.tree.proofs.Nearest.Once.{compared_more, compared_less}
 use Rattle.tree.specs.Nearest.Lean.{Work, meet, meets}
 
 -- cs are the slots compared when those of ts were taken, in any order

@@ -22,7 +22,7 @@ use Rattle.tree.specs.View.{View, Used, away, Below, here, down, Formed, Sound}
 use Rattle.tree.specs.View.Shape.{below_younger, below_used, below_root, siblings_same}
 use Rattle.tree.specs.View.Under.{under_from}
 use Rattle.tree.specs.Search.{least, enters, is_visited, bound, turn, visit}
-use Rattle.tree.specs.Search.Once.{visit_part}
+use Rattle.tree.proofs.Search.Once.{visit_part}
 
 -- the least of a number that is asked for and another is no more than either
 least_most : (b : Bool) (m n : ℕ) → least b m n ≤ n

@@ -11,7 +11,7 @@ use Rattle.tree.specs.View.{View, Used, Shallow, Formed, used_count}
 use Rattle.tree.specs.View.Shape.{shallow_some, shallow_child}
 use Rattle.tree.specs.View.Under.{used_shallow}
 use Rattle.tree.specs.Insert.{nearest, hangs, onward, path, walk, IsWalk}
-use Rattle.tree.specs.Insert.Path.{nearest_∈}
+use Rattle.tree.proofs.Insert.Path.{nearest_∈}
 
 module _ {Sig : Type 0} (d : Sig → Sig → ℕ) (v : View Sig) (x : Sig) (arity : ℕ) where
   -- what follows a is fixed by the walks from these children

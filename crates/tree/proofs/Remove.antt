@@ -1,0 +1,5 @@
+-- Removal: its theorems.
+pub mod After
+pub mod KeepsFormed
+pub mod KeepsSound
+pub mod Count
