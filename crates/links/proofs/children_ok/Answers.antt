@@ -1,6 +1,5 @@
 -- `links::children_ok` meets its contract. The loop's invariant: the i children passed are linked to s, and
 -- `before` is the last one's timestamp, at first the record's own. Assumes nothing.
-use Rattle.std.specs.Prelude.{◌-◌}
 use Rattle.std.proofs.Common.{arith}
 use Rattle.table.specs.Record.{record_of}
 use Rattle.table.specs.Stands.{Stands, stands_below}

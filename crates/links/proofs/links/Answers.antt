@@ -1,5 +1,5 @@
 -- `links::links` meets its contract. The loop's invariant: it has seen the records before s. Assumes nothing.
-use Rattle.std.specs.Prelude.{true, refl}
+use Rattle.std.specs.Prelude.{refl}
 use Rattle.std.proofs.Common.{arith}
 use Rattle.std.proofs.lemmas.Bool.{not-true, not-false}
 use Rattle.table.specs.Record.{record_of}

@@ -1,6 +1,6 @@
 -- `newcomer::clear_slots` meets its contract. The loop's invariant: the first i child slots are 65,535, and nothing
 -- else has changed. Assumes nothing.
-use Rattle.std.specs.Prelude.{ℕ, ◌-◌, ◌≡◌, refl}
+use Rattle.std.specs.Prelude.{ℕ, ◌≡◌, refl}
 use Rattle.std.proofs.Common.{sym, ap, ◌∙◌, arith, rules}
 use Rattle.refusals.specs.Limits.{most_children}
 use Rattle.table.specs.Record.{record_of, no_slot}

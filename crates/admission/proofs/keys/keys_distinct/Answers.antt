@@ -1,6 +1,6 @@
 -- `admission::keys::keys_distinct` meets its contract. The loop's invariant: the keys of the records before s are
 -- distinct, and the cells hold just those. Assumes nothing.
-use Rattle.std.specs.Prelude.{ℕ, ◌-◌, ◌≡◌, List}
+use Rattle.std.specs.Prelude.{ℕ, ◌≡◌}
 use Rattle.std.proofs.Common.{sym, ap, ◌∙◌, mod-lt, arith, lit<}
 use Rattle.distinct.specs.Distinct.{distinct_to}
 use Rattle.distinct.specs.Seat.{cell_count, seated}
@@ -8,7 +8,6 @@ use Rattle.distinct.specs.Cells.{holds_none, holds_fresh, holds_seen}
 use Rattle.table.specs.Record.{record_of}
 use Rattle.table.specs.Stands.{stands_below}
 use Rattle.admission.specs.Key.{key_of}
-use Rattle.admission.specs.declared.keys.Key.{Key}
 use Rattle.admission.proofs.keys.keys_distinct.Goals as goal
 
 pub loop-s-init : goal.loop-s-init
