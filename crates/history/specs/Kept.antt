@@ -24,7 +24,7 @@ use Rattle.insert.specs.Insert.{inserted, insert_of}
 use Rattle.insert.specs.Accepted.{comer, accepted_ready}
 use Rattle.insert.specs.Promises as Inserts
 use Rattle.delete.specs.Delete.{deleted, delete_of}
-use Rattle.delete.specs.Promises as Deletes
+use Rattle.delete.proofs.Promises as Deletes
 use Rattle.history.specs.History.{Writing, clear, insert, delete, TypedWriting, outcome_of, stored_by}
 use Rattle.history.specs.History.{Call, writes, reads, Typed, AllTyped, State, cleared, without, after, run}
 use Rattle.history.specs.Demands.{Holds, cards_of}

@@ -23,7 +23,7 @@ use Rattle.insert.specs.Insert as Insert
 use Rattle.insert.specs.Promises as Inserts
 use Rattle.delete.specs.Delete.{delete_of, clock_would_pass}
 use Rattle.delete.specs.Delete as Delete
-use Rattle.delete.specs.Promises as Deletes
+use Rattle.delete.proofs.Promises as Deletes
 use Rattle.search.specs.Search.{search_of}
 use Rattle.search.specs.Search as Search
 use Rattle.search.specs.Promises.{refusal_is, count_narrower}

@@ -27,7 +27,7 @@ use Rattle.insert.specs.Insert as Insert
 use Rattle.insert.specs.Promises as Inserts
 use Rattle.delete.specs.Delete.{deleted}
 use Rattle.delete.specs.Delete as Delete
-use Rattle.delete.specs.Promises as Deletes
+use Rattle.delete.proofs.Promises as Deletes
 use Rattle.search.specs.Search.{listing}
 use Rattle.search.specs.Search as Search
 use Rattle.search.specs.Laws.{accepted_is}

@@ -28,7 +28,7 @@ use Rattle.insert.specs.Accepted.{comer}
 use Rattle.insert.specs.Promises as Inserts
 use Rattle.delete.specs.Delete.{deleted, clock_would_pass}
 use Rattle.delete.specs.Delete as Delete
-use Rattle.delete.specs.Promises as Deletes
+use Rattle.delete.proofs.Promises as Deletes
 use Rattle.search.specs.Search.{cards, distances}
 use Rattle.search.specs.Search as Search
 use Rattle.soundness.specs.Soundness.{is_sound, check_of}

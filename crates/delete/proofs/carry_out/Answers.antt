@@ -1,7 +1,7 @@
 -- `delete::call::carry_out` meets its contract: v has left, and putting back those that wait is what is left of the
 -- rule. Assumes nothing.
 use Rattle.std.proofs.Common.{◌∙◌}
-use Rattle.delete.specs.Plan.{plan_some, plan_used, plan_pending, plan_rest}
+use Rattle.delete.proofs.Plan.{plan_some, plan_used, plan_pending, plan_rest}
 use Rattle.delete.proofs.carry_out.Goals as goal
 
 pub unhang-requires : goal.unhang-requires

@@ -9,9 +9,10 @@ use Rattle.table.specs.Table.{records_in}
 use Rattle.table.specs.Stands.{stand_all}
 use Rattle.survey.specs.Survey.{slot_of_card}
 use Rattle.admission.specs.Admission.{admission_tests}
-use Rattle.delete.specs.Call.{outcome_at, same_refusal, right_arity, admission_refused, argument_refused}
-use Rattle.delete.specs.Call.{absent_refused, present_done}
-use Rattle.delete.specs.Plan.{present_deletable}
+use Rattle.delete.specs.Call.{outcome_at}
+use Rattle.delete.proofs.Call.{same_refusal, right_arity, admission_refused, argument_refused}
+use Rattle.delete.proofs.Call.{absent_refused, present_done}
+use Rattle.delete.proofs.Plan.{present_deletable}
 use Rattle.delete.proofs.delete.Goals.{Else-admitted-ne-DONE, Else-not-known_change}
 use Rattle.delete.proofs.delete.Goals as goal
 

@@ -4,10 +4,11 @@ use Rattle.std.specs.Prelude.{◌+◌, ◌≤◌, ◌≡◌, length, take}
 use Rattle.std.proofs.Common.{sym, ◌∙◌, arith, rules}
 use Rattle.refusals.specs.Limits.{most_records, last_timestamp}
 use Rattle.table.specs.Stands.{stand_all}
-use Rattle.delete.specs.Call.{same_refusal}
-use Rattle.delete.specs.Plan.{Planned, deletable_few_records, deletable_walkable, deletable_stands, deletable_size}
-use Rattle.delete.specs.Plan.{deletable_few, ordered_length, ordered_in, ordered_some, ordered_few, ordered_slots}
-use Rattle.delete.specs.Plan.{ordered_plan, plan_refused, plan_done}
+use Rattle.delete.proofs.Call.{same_refusal}
+use Rattle.delete.specs.Plan.{Planned}
+use Rattle.delete.proofs.Plan.{deletable_few_records, deletable_walkable, deletable_stands, deletable_size}
+use Rattle.delete.proofs.Plan.{deletable_few, ordered_length, ordered_in, ordered_some, ordered_few, ordered_slots}
+use Rattle.delete.proofs.Plan.{ordered_plan, plan_refused, plan_done}
 use Rattle.delete.proofs.delete_at.Goals.{After-in_age_order-m, After-last_staying-last, Else-last-m-gt-LAST}
 use Rattle.delete.proofs.delete_at.Goals as goal
 

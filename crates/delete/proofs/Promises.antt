@@ -23,11 +23,11 @@ use Rattle.refusals.specs.Outcome.{refused}
 use Rattle.tree.specs.Slots.{◌∈◌}
 use Rattle.tree.specs.View.{Rising, Below}
 use Rattle.delete.specs.Delete.{waiting, deleted, refusal_of, delete_of}
-use Rattle.delete.specs.Waiting.{waiting_rising, waiting_below}
+use Rattle.delete.proofs.Waiting.{waiting_rising, waiting_below}
 use Rattle.removal.specs.Leaving.{Held}
-use Rattle.delete.specs.Deleted.{deleted_returned, deleted_sound, deleted_stored, deleted_free}
-use Rattle.delete.specs.Call.{accepted_held, accepted_arity, accepted_clock, accepted_slot}
-use Rattle.delete.specs.Fits.{deleted_fits}
+use Rattle.delete.proofs.Deleted.{deleted_returned, deleted_sound, deleted_stored, deleted_free}
+use Rattle.delete.proofs.Call.{accepted_held, accepted_arity, accepted_clock, accepted_slot}
+use Rattle.delete.proofs.Fits.{deleted_fits}
 
 -- the record in each slot of a table
 abbrev pub table_of : List ℕ → ℕ → Record

@@ -16,7 +16,7 @@ use Rattle.removal.specs.Leaving.{Held, removed_out}
 use Rattle.removal.specs.Removed.{used_stays, removed_shaped, removed_well_formed}
 use Rattle.back.specs.Fits.{put_back_fits}
 use Rattle.delete.specs.Delete.{waiting, deleted, clock_would_pass}
-use Rattle.delete.specs.Deleted.{removed_returnable}
+use Rattle.delete.proofs.Deleted.{removed_returnable}
 
 removed_fits : {rows : List Record} {v : ℕ} → Held rows v → FittingRow rows → FittingRow (removed rows v)
 removed_fits {rows} {v} held fits a h =

@@ -36,8 +36,9 @@ use Rattle.age.specs.Key.{age_key, slot_in}
 use Rattle.back.specs.Returnable.{returnable_same}
 use Rattle.back.specs.Loop.Turn.{Turn, formed_linked}
 use Rattle.delete.specs.Delete.{waiting}
-use Rattle.delete.specs.Waiting.{leaving_keys, leaving_within, waiting_low, waiting_iff, keys_slots}
-use Rattle.delete.specs.Deleted.{removed_returnable}
+use Rattle.delete.specs.Waiting.{leaving_keys}
+use Rattle.delete.proofs.Waiting.{leaving_within, waiting_low, waiting_iff, keys_slots}
+use Rattle.delete.proofs.Deleted.{removed_returnable}
 use Rattle.below.specs.Loop.Clock.{
   no_marks,
   marked,

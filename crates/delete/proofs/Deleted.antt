@@ -28,7 +28,7 @@ use Rattle.back.specs.Returnable.{Returnable}
 use Rattle.back.specs.Returned.{Returned, put_back_returned, put_back_sound}
 use Rattle.back.specs.Instance.{parted_returnable}
 use Rattle.delete.specs.Delete.{waiting, deleted}
-use Rattle.delete.specs.Waiting.{waiting_iff, waiting_distinct}
+use Rattle.delete.proofs.Waiting.{waiting_iff, waiting_distinct}
 
 module _ {rows : List Record} {v : ℕ} (held : Held rows v) where
   -- what has not left is as it was brought
