@@ -36,9 +36,9 @@ use Rattle.history.specs.History as History
 use Rattle.history.specs.History.{outcome_of, stored_by, tells_of, Typed, AllTyped, State, cleared}
 use Rattle.history.specs.History.{after, run, Line, report_of, reports}
 use Rattle.history.specs.Demands.{Holds}
-use Rattle.history.specs.Holds.{sized, records_are}
-use Rattle.history.specs.Kept.{after_holds}
-use Rattle.history.specs.Searched.{check_done}
+use Rattle.history.proofs.Holds.{sized, records_are}
+use Rattle.history.proofs.Kept.{after_holds}
+use Rattle.history.proofs.Searched.{check_done}
 use Rattle.history.specs.Refused.{insert_accepted, insert_refused, insert_refusal_lem, delete_accepted}
 use Rattle.history.specs.Refused.{delete_refused, delete_refusal_lem}
 use Rattle.listing.specs.Rows.{

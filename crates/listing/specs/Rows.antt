@@ -36,7 +36,7 @@ use Rattle.history.specs.History as History
 use Rattle.history.specs.History.{Call, writes, reads, State}
 use Rattle.history.specs.History.{without, Line, line}
 use Rattle.history.specs.Demands.{Holds}
-use Rattle.history.specs.Holds.{sized}
+use Rattle.history.proofs.Holds.{sized}
 
 -- ---- the calls of the worked examples
 

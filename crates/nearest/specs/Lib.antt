@@ -1,7 +1,3 @@
--- The nearest few cards: the call's outcome, what it promises, and the laws that its code's proofs cite.
+-- The nearest few cards: the call's outcome, and its pairs as keys. What it promises is in proofs/.
 pub mod Nearest
-pub mod Promises
-pub mod Tests
 pub mod Keys
-pub mod Laws
-pub mod Ends

@@ -1,5 +1,6 @@
 -- The rows of keys as images of the tree's lean work: what each record that waits and each card held is as a key.
--- Same/Finish has the theorem, and Same/Steps what it stands on: each step of the one is the same step of the other.
+-- The theorem is in proofs/Same/Finish, and what it stands on in proofs/Same/Steps: each step of the one is the same step
+-- of the other.
 use Rattle.std.specs.Prelude.{ℕ, ◌≤◌, ◌<◌, length}
 use mathlib.Core.List.{List, map, Memᴰ}
 use Rattle.std.proofs.Common.{arith}
@@ -24,9 +25,6 @@ use Rattle.steps.specs.Step.{away_from}
 use Rattle.waiting.specs.Key.{second_span}
 use Rattle.waiting.specs.Front.{State, state, held_key, wait_key}
 pub mod Image
-pub mod Held
-pub mod Steps
-pub mod Finish
 
 -- what is known of n records with this root, and of the query's readings q
 pub record Given (n : ℕ) (R : ℕ → Record) (root : ℕ) (q : List ℕ) : Type 0 where

@@ -9,7 +9,7 @@ use Rattle.survey.specs.Survey.{used_in, root_of}
 use Rattle.waiting.specs.Same.{Given, readable_given}
 use Rattle.nearest.specs.Nearest.{nearest_pairs}
 use Rattle.nearest.specs.Keys.{pair_in}
-use Rattle.nearest.specs.Laws.{pairs_told, listing_is, listing_none}
+use Rattle.nearest.proofs.Laws.{pairs_told, listing_is, listing_none}
 use Rattle.nearest.proofs.accepted.Goals.{After-pairs_of-pairs, Else-used-eq0}
 use Rattle.nearest.proofs.accepted.Goals as goal
 

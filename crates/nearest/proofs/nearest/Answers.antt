@@ -8,8 +8,8 @@ use Rattle.table.specs.Table.{records_in}
 use Rattle.refusals.specs.Refusal.{done}
 use Rattle.survey.specs.Answers.{Answers}
 use Rattle.nearest.specs.Nearest.{refusal_of}
-use Rattle.nearest.specs.Tests.{Accepted, accepted, refusal_admits}
-use Rattle.nearest.specs.Laws.{accepted_is, refuses}
+use Rattle.nearest.proofs.Tests.{Accepted, accepted, refusal_admits}
+use Rattle.nearest.proofs.Laws.{accepted_is, refuses}
 use Rattle.nearest.proofs.nearest.Goals.{After-admit-lent, After-refusal_of-refusal, After-signature_at-q}
 use Rattle.nearest.proofs.nearest.Goals.{Else-refusal-ne-DONE}
 use Rattle.nearest.proofs.nearest.Goals as goal

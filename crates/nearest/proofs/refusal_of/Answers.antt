@@ -9,7 +9,7 @@ use Rattle.survey.specs.Answers.{Answers}
 use Rattle.admission.specs.Admission.{Admits, admission_tests}
 use Rattle.admission.specs.Query.{other_kind, other_found_lem}
 use Rattle.nearest.specs.Nearest.{right_arguments}
-use Rattle.nearest.specs.Tests.{refusal_lent, refusal_argument, refusal_kind, refusal_short, refusal_none}
+use Rattle.nearest.proofs.Tests.{refusal_lent, refusal_argument, refusal_kind, refusal_short, refusal_none}
 use Rattle.nearest.proofs.refusal_of.Goals.{After-other_kind, Else-lent-ne-DONE, Else-not-right_arguments}
 use Rattle.nearest.proofs.refusal_of.Goals as goal
 

@@ -10,7 +10,7 @@ use Rattle.view.specs.Readable.{readable_walkable, readable_root}
 use Rattle.waiting.specs.Front.{State}
 use Rattle.waiting.specs.Rows.{front_of}
 use Rattle.waiting.specs.Going.{first_rows}
-use Rattle.nearest.specs.Ends.{Begun, begun_at, begun_known, ended_held, ended_count, ended_fits}
+use Rattle.nearest.proofs.Ends.{Begun, begun_at, begun_known, ended_held, ended_count, ended_fits}
 use Rattle.nearest.proofs.search_from.Goals.{After-meet-start, After-slice_known-1}
 use Rattle.nearest.proofs.search_from.Goals as goal
 

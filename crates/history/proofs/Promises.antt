@@ -30,7 +30,7 @@ use Rattle.search.specs.Promises.{refusal_is, count_narrower}
 use Rattle.pairs.specs.declared.Pair.{Pair}
 use Rattle.nearest.specs.Nearest.{nearest_of}
 use Rattle.nearest.specs.Nearest as Nearest
-use Rattle.nearest.specs.Promises as Nearests
+use Rattle.nearest.proofs.Promises as Nearests
 use Rattle.soundness.specs.Soundness.{is_sound, check_of}
 use Rattle.inventory.specs.Cards.{all_cards_of}
 use Rattle.inventory.specs.Cards as Cards
@@ -41,12 +41,14 @@ use Rattle.history.specs.History.{Call, AllTyped, State, cleared, run}
 use Rattle.history.specs.Demands.{Holds, Finds, ListsExactly, Refuses}
 use Rattle.history.specs.Longer.{longer, longer_holds}
 use Rattle.history.specs.Complete.{check_exactly}
-use Rattle.history.specs.Kept.{run_holds}
-use Rattle.history.specs.Searched.{search_finds, check_done}
+use Rattle.history.proofs.Kept.{run_holds}
+use Rattle.history.proofs.Searched.{search_finds, check_done}
 use Rattle.history.specs.Refused.{clear_refusal, clear_untouched, insert_refusal_lem, delete_refusal_lem}
 use Rattle.history.specs.Refused.{search_untouched}
-use Rattle.history.specs.Nearest.{FindsNearest, nearest_finds, nearest_untouched}
-use Rattle.history.specs.Inventory.{Lists, Tells, cards_lists, card_tells, cards_untouched, card_untouched}
+use Rattle.history.specs.Nearest.{FindsNearest}
+use Rattle.history.proofs.Nearest.{nearest_finds, nearest_untouched}
+use Rattle.history.specs.Inventory.{Lists, Tells}
+use Rattle.history.proofs.Inventory.{cards_lists, card_tells, cards_untouched, card_untouched}
 
 -- ---- demand 1: each call refuses by the first of its tests that holds, and a refused call leaves all as it was
 

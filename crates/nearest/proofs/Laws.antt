@@ -20,7 +20,7 @@ use Rattle.tree.proofs.Nearest.Fuel.{taken_count}
 use Rattle.view.specs.View.{view_of}
 use Rattle.view.specs.Survey.{used_in_used_count}
 use Rattle.waiting.specs.Same.{Given}
-use Rattle.waiting.specs.Same.Held.{held_told}
+use Rattle.waiting.proofs.Same.Held.{held_told}
 use Rattle.nearest.specs.Nearest.{outcome, pair, pair_at, taken_slots, compared_slots, distances, nearest_pairs}
 use Rattle.nearest.specs.Nearest.{refusal_of, refused, listing, listing_of, nearest_of}
 use Rattle.nearest.specs.Keys.{pair_in, keys_held}

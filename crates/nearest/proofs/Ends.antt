@@ -23,10 +23,10 @@ use Rattle.waiting.specs.Front.{State, state, lower_from, meet_one, finish, star
 use Rattle.waiting.specs.Rows.{Known}
 use Rattle.waiting.specs.Known.{start_known}
 use Rattle.waiting.specs.Same.{Given, readable_given, key_held, held_of}
-use Rattle.waiting.specs.Same.Finish.{rows_held, rows_count}
+use Rattle.waiting.proofs.Same.Finish.{rows_held, rows_count}
 use Rattle.nearest.specs.Nearest.{distances}
 use Rattle.nearest.specs.Keys.{keys_held}
-use Rattle.nearest.specs.Laws.{compared_some, distances_some, distances_fit}
+use Rattle.nearest.proofs.Laws.{compared_some, distances_some, distances_fit}
 
 -- of n records with this root, of which some are used: as many may be taken as are used
 module _ {n : ℕ} {R : ℕ → Record} {q : List ℕ} (some : 1 ≤ used_in n R) (given : Given n R (root_of n R) q) (kind k : ℕ)

@@ -24,7 +24,7 @@ use Rattle.steps.specs.Step.{away_from}
 use Rattle.waiting.specs.Front.{State, exceeds, lower_from, waits_with, meet_one, meet_all, meet_children, start_at}
 use Rattle.waiting.specs.Same.{Given, AllUsed, AllWait, key_held, key_waiting, held_of, image_of}
 use Rattle.waiting.specs.Same.Image.{put_map}
-use Rattle.waiting.specs.Same.Held.{waiting_below, holds_is, exceeds_is}
+use Rattle.waiting.proofs.Same.Held.{waiting_below, holds_is, exceeds_is}
 
 -- all that wait and all that were compared are used
 pub record InUse (R : ℕ → Record) (W : Work) : Type 0 where

@@ -30,8 +30,8 @@ use Rattle.view.specs.Readable.{readable_seen}
 use Rattle.view.specs.Survey.{used_in_used_count}
 use Rattle.nearest.specs.Nearest.{outcome, taken_slots, compared_slots, pair_at, nearest_pairs}
 use Rattle.nearest.specs.Nearest.{refusal_of, listing, nearest_of}
-use Rattle.nearest.specs.Tests.{accepted}
-use Rattle.nearest.specs.Laws.{
+use Rattle.nearest.proofs.Tests.{accepted}
+use Rattle.nearest.proofs.Laws.{
   accepted_is,
   refused_is,
   compared_none,

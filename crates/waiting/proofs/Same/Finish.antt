@@ -16,8 +16,8 @@ use Rattle.view.specs.View.{view_of}
 use Rattle.waiting.specs.Key.Laws.{key_first, key_slot}
 use Rattle.waiting.specs.Front.{State, take_next, finish, start_at}
 use Rattle.waiting.specs.Same.{Given, used_slot, key_held, key_waiting, held_of, image_of}
-use Rattle.waiting.specs.Same.Held.{exceeds_is}
-use Rattle.waiting.specs.Same.Steps.{InUse, start_is, start_used, children_are, children_used}
+use Rattle.waiting.proofs.Same.Held.{exceeds_is}
+use Rattle.waiting.proofs.Same.Steps.{InUse, start_is, start_used, children_are, children_used}
 
 module _ {n : ℕ} {R : ℕ → Record} {root : ℕ} {q : List ℕ} (given : Given n R root q) (kind k : ℕ) (one : 1 ≤ k) where
   abbrev image : Work → State

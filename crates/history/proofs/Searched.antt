@@ -33,7 +33,7 @@ use Rattle.soundness.specs.Soundness.{check_of}
 use Rattle.soundness.specs.Decided.{sound_decided}
 use Rattle.history.specs.History.{State}
 use Rattle.history.specs.Demands.{Holds, cards_of, compared_cards, Finds}
-use Rattle.history.specs.Holds.{sized, records_are}
+use Rattle.history.proofs.Holds.{sized, records_are}
 
 -- ---- a table of n records after some calls
 

@@ -29,7 +29,7 @@ use Rattle.history.specs.History.{Writing, clear, insert, delete, TypedWriting, 
 use Rattle.history.specs.History.{Call, writes, reads, Typed, AllTyped, State, cleared, without, after, run}
 use Rattle.history.specs.Demands.{Holds, cards_of}
 use Rattle.history.specs.Refused.{clear_untouched, insert_none, insert_bytes, delete_bytes}
-use Rattle.history.specs.Holds.{free_holds, cleared_holds, sized, records_are, table_holds}
+use Rattle.history.proofs.Holds.{free_holds, cleared_holds, sized, records_are, table_holds}
 
 -- ---- the stored cards
 
