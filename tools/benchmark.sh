@@ -7,7 +7,7 @@ cd "$(dirname "$0")/.."
 export CARGO_NET_OFFLINE=true CARGO_TERM_COLOR=never
 if [ -z "${PLOTVUGA_LIB_DIR:-}" ]; then
     bash tools/setup.sh >&2
-    rt staticlib plotvuga >&2
+    bash tools/library.sh plotvuga >&2
     export PLOTVUGA_LIB_DIR=$PWD/target/staticlib
 fi
 cd rust

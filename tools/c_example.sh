@@ -21,7 +21,7 @@ finish() {
     exit 0
 }
 
-[ -f "$lib" ] || { echo "no $lib: rt staticlib plotvuga builds it"; failed=1; finish; }
+[ -f "$lib" ] || { echo "no $lib: bash tools/library.sh plotvuga builds it"; failed=1; finish; }
 # The header alone, twice, in every C that it is meant for.
 for std in c99 c11 c17; do
     step "header in $std" sh -c "printf '#include \"plotvuga.h\"\n#include \"plotvuga.h\"\n' |

@@ -33,7 +33,7 @@ run() { # COMMAND..
 
 # Whether a crate is there to be compared, and its library or program built.
 built() { # CRATE COMMAND..
-    grep -q "^$1:" crates.txt || { echo "$1 is not listed in crates.txt: not compared"; return 1; }
+    grep -qE "^$1( staticlib)?:" crates.txt || { echo "$1 is not listed in crates.txt: not compared"; return 1; }
     shift
     "$@" >"$log" 2>&1 || { cat "$log"; failed=$((failed + 1)); return 1; }
 }
@@ -62,10 +62,10 @@ else
 fi
 run in_rust cargo test --release -q
 run in_rust cargo test --release -q -p probe --features stub
-if built probe rt staticlib probe; then
+if built probe bash tools/library.sh probe; then
     run in_rust cargo run --release -q -p probe --bin compare
 fi
-if built plotvuga rt staticlib plotvuga; then
+if built plotvuga bash tools/library.sh plotvuga; then
     run bash tools/c_example.sh
     run bash tools/outside.sh
     run bash tools/stack.sh
@@ -74,7 +74,7 @@ if built plotvuga rt staticlib plotvuga; then
     run in_rust cargo test --release -q -p histories
     run in_rust cargo run --release -q -p histories
 fi
-if built bench rt check bench; then
+if built bench bash tools/program.sh; then
     run in_rust cargo run --release -q -p program -- "$PWD/target/bin/bench"
     run bash tools/text_front.sh
 fi

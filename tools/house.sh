@@ -13,7 +13,7 @@ passed=0 failed=0
 # name, so that there is one place to change.
 layout='crates/table/specs/Record\.antt'
 # Crates in which 64 is the number of bits of a word.
-words='crates/(number|distance|order|places)/'
+words='crates/(number|distance|compare|order|places)/'
 # Names of table's that are shut: other crates use their laws, and not their text.
 shut='Stands|StandTo|AreRecords|WholeRecords'
 # Crates that may have a public function and no edit, each with its reason: 'NAME: REASON', one to a line.
@@ -29,7 +29,8 @@ ok() { # TRUE-OR-FALSE WHAT
 sources() { # SUFFIX..
     local s names=()
     for s; do names+=(-o -name "*.$s"); done
-    find . \( -name .git -o -name target -o -name must-fail \) -prune -o -type f \( -false "${names[@]}" \) -print |
+    find . \( -name .git -o -name target -o -name out -o -name must-fail \) -prune \
+        -o -type f \( -false "${names[@]}" \) -print |
         sed 's|^\./||' | sort
 }
 
@@ -82,7 +83,7 @@ long_bodies() {
             match($0, /^ */); indent = substr($0, 1, RLENGTH); name = $0; line = FNR; open = 0; from = 1
         }
         from && !open && ($0 ~ /\{$/ && $0 !~ /requires|ensures/) { open = FNR }
-        from && !open && $0 ~ /;$|\}$/ && $0 !~ /[⌜⌝]/ { from = 0 }
+        from && !open && $0 ~ /;$|\}$/ && $0 !~ /requires|ensures/ { from = 0 }
         from && open && $0 == indent "}" {
             if (FNR - open - 1 > most) { sub(/^ */, "", name); print FNR - open - 1, FILENAME ":" line, name }
             from = 0
@@ -161,18 +162,18 @@ edits_everywhere() {
 
 # The crates that a crate's files name, in code, contracts, specs and proofs.
 names_in() { # CRATE
-    find "crates/$1" -name must-fail -prune -o -type f \( -name '*.rt' -o -name '*.antt' \) -print |
-        xargs sed -E 's@(^|[[:space:]])(--|//).*@@' | grep -oE 'Rattle·[a-z_]+|\b[a-z_]+::' |
-        sed -E 's/^Rattle·//; s/::$//' | grep -vx "$1" | sort -u
+    find "crates/$1" \( -name must-fail -o -name out \) -prune -o -type f \( -name '*.rt' -o -name '*.antt' \) -print |
+        xargs sed -E 's@(^|[[:space:]])(--|//).*@@' | grep -oE 'Rattle\.[a-z_]+|\b[a-z_]+::' |
+        sed -E 's/^Rattle\.//; s/::$//' | grep -vx "$1" | sort -u
 }
 
 names_listed() {
     local crate deps known wrong=''
-    known=$( (sed -nE 's/^([a-z_]+):.*/\1/p' crates.txt && printf 'io\nlibc\nos\nbytes\ncheck\n') | sort)
+    known=$(sed -nE 's/^([a-z_]+)( staticlib)?:.*/\1/p' crates.txt | sort)
     while IFS=: read -r crate deps; do
-        deps=$(printf '%s\n' ${deps%%#*} | sort)
+        crate=${crate% staticlib} deps=$(printf '%s\n' ${deps%%#*} | sort)
         [ "$deps" = "$(comm -12 <(names_in "$crate") <(printf '%s\n' "$known"))" ] || wrong="$wrong $crate"
-    done < <(grep -E '^[a-z_]+:' crates.txt)
+    done < <(grep -E '^[a-z_]+( staticlib)?:' crates.txt)
     if [ -n "$wrong" ]; then
         ok false "crates.txt lists other crates than the files name, for:$wrong"
     else

@@ -26,8 +26,7 @@ shared=libplotvuga.so.$version
 
 if [ -z "$static" ]; then
     echo "proving and building the library: some 3 minutes on two cores the first time, seconds after that"
-    mkdir -p target
-    rt staticlib plotvuga >target/install.log 2>&1 || { cat target/install.log >&2; exit 1; }
+    bash tools/library.sh plotvuga
     static=$PWD/target/staticlib/libplotvuga.a
 fi
 [ -f "$static" ] || { echo "no $static" >&2; exit 1; }

@@ -10,7 +10,7 @@ passed=0 failed=0
 export PLOTVUGA_LIB_DIR=${PLOTVUGA_LIB_DIR:-$PWD/target/staticlib} CARGO_NET_OFFLINE=true CARGO_TERM_COLOR=never
 lib=$PLOTVUGA_LIB_DIR/libplotvuga.a
 [ -f "$lib" ] || {
-    echo "no $lib: rt staticlib plotvuga builds it"
+    echo "no $lib: bash tools/library.sh plotvuga builds it"
     echo "0 passed, 1 failed"
     exit 1
 }
@@ -78,7 +78,7 @@ printf '[package]\nname = "first"\nversion = "0.1.0"\nedition = "2021"\n\n[depen
 readme 'plotvuga = ' >>"$work/rust/Cargo.toml"
 outside() { (cd "$work/rust" && CARGO_TARGET_DIR=$work/rust/target "$@"); }
 says() { ! outside env PLOTVUGA_LIB_DIR="$work/none" cargo build -q 2>"$work/said" && grep "$1" "$work/said"; }
-step "without the library" says "rt staticlib plotvuga"
+step "without the library" says "bash tools/library.sh plotvuga"
 step "in Rust" prints outside cargo run -q
 step "in Rust, with what was installed" prints outside env PLOTVUGA_LIB_DIR="$PREFIX/lib" cargo run -q
 

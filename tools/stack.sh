@@ -5,7 +5,7 @@ set -u
 cd "$(dirname "$0")/.."
 lib=${PLOTVUGA_LIB_DIR:-$PWD/target/staticlib}/libplotvuga.a
 mkdir -p target/c_example
-[ -f "$lib" ] || { echo "no $lib: rt staticlib plotvuga builds it"; echo "0 passed, 1 failed"; exit 1; }
+[ -f "$lib" ] || { echo "no $lib: bash tools/library.sh plotvuga builds it"; echo "0 passed, 1 failed"; exit 1; }
 if gcc -std=c11 -O1 -Wall -Wextra -Werror -pthread -Iinclude -o target/c_example/stack tools/stack.c "$lib" &&
     target/c_example/stack; then
     echo "1 passed, 0 failed"

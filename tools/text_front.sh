@@ -4,7 +4,7 @@
 set -u
 cd "$(dirname "$0")/.."
 bench=${BENCH:-target/bin/bench}
-[ -x "$bench" ] || { echo "no $bench: rt check bench builds it"; echo "0 passed, 1 failed"; exit 1; }
+[ -x "$bench" ] || { echo "no $bench: bash tools/program.sh builds it"; echo "0 passed, 1 failed"; exit 1; }
 if tools/cards <examples/listing.txt | "$bench" | diff -u examples/listing.expected -; then
     echo "1 passed, 0 failed"
 else

@@ -1,6 +1,6 @@
 //! Links the proved library, `libplotvuga.a`: from the directory that PLOTVUGA_LIB_DIR names, or from the repository's
-//! own `target/staticlib`, where `rt staticlib plotvuga` puts it. Documentation and lints need no library, so a missing
-//! one is told only where something is linked.
+//! own `target/staticlib`, where `tools/library.sh plotvuga` puts it. Documentation and lints need no library, so a
+//! missing one is told only where something is linked.
 
 use std::path::PathBuf;
 
@@ -23,5 +23,5 @@ fn main() {
 
 /// Linked in place of a library that is not there. The compiler looks for it only when it links, does not find it, and
 /// says so by this name: what to do stands in it. A colon would end the name.
-const MISSING: &str = "plotvuga (run 'rt staticlib plotvuga' in the repository, or set PLOTVUGA_LIB_DIR to the folder \
-                       that holds libplotvuga.a)";
+const MISSING: &str = "plotvuga (run 'bash tools/library.sh plotvuga' in the repository, or set PLOTVUGA_LIB_DIR to the \
+                       folder that holds libplotvuga.a)";

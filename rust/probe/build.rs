@@ -27,5 +27,5 @@ fn main() {
 
 /// Linked in place of a library that is not there. The compiler looks for it only when it links, does not find it, and
 /// says so by this name: what to do stands in it. A colon would end the name.
-const MISSING: &str = "probe (run 'rt staticlib probe' and set PLOTVUGA_LIB_DIR to the whole path of \
+const MISSING: &str = "probe (run 'bash tools/library.sh probe' and set PLOTVUGA_LIB_DIR to the whole path of \
                        target/staticlib, or build without it, for --self alone, by --features stub)";

@@ -118,7 +118,8 @@ module _ (rows : List Record) (ss : List ℕ) (within : (s : ℕ) → s ∈ ss �
         rw e z.1,
     λ i.
         let k = image_to (age_key rows) s ss i in
-        rw (key_slot s i) at (image_to slot_in (age_key rows s) (in_order (map (age_key rows) ss)) (in_order_of_member k)),
+        rw (key_slot s i) at (image_to slot_in (age_key rows s) (in_order (map (age_key rows) ss))
+        (in_order_of_member k)),
   )
 
   pub by_age_distinct : Distinct ss → Distinct (by_age rows ss)

@@ -9,7 +9,7 @@ ghost use Rattle.command.specs.Command.{command_of, command_length};
 ghost use Rattle.bench.specs.Program.{places, Answer, answer_of, Reached, Says};
 
 use command::COMMAND;
-use libc::{STDERR_FILENO, STDIN_FILENO, STDOUT_FILENO};
+use std::io::Read;
 
 const TABLE: usize = 32768;
 
@@ -21,24 +21,24 @@ const LINE: usize = 5679;
 // The longest line of left-over bytes.
 const CUT: usize = 25;
 
-// Says on standard error what could not be done with the line or command of this number.
-fn complain(what: &[u8], number: u64, of: &[u8]) {
-    io::write_all(STDERR_FILENO, what);
-    io::print_decimal(STDERR_FILENO, number);
-    io::write_all(STDERR_FILENO, of);
+// Says on standard error what could not be done with the line or command of this number. Where that fails too, nobody
+// is left to tell.
+fn complain(rt: &impl Eprint, what: &str, number: u64, of: &str) {
+    let _ = eprint!(rt; "{what}{number}{of}");
 }
 
 // Writes to standard output, as nothing else does: only what the program has to say after so many commands.
-fn print(done: u64, bytes: &[u8]) -> bool
+fn print(rt: &(impl Print + Eprint), done: u64, bytes: &[u8]) -> bool
     requires { (done + 1 < 2 ^ 64) × Says done bytes.now }
 {
-    if io::write_all(STDOUT_FILENO, bytes) {
+    if rt.write_all(bytes).is_ok() {
         return true;
     }
     complain(
-        b"bench: could not write line ",
+        rt,
+        "bench: could not write line ",
         done + 1,
-        b" to standard output\n",
+        " to standard output\n",
     );
     false
 }
@@ -55,17 +55,23 @@ fn answer(done: u64, input: &[u8], table: &mut [u8], list: &mut [u32], room: &mu
 }
 
 // Answers a command on standard output; answers whether to go on.
-fn respond(done: u64, input: &[u8], table: &mut [u8; TABLE], list: &mut [u32; PLACES]) -> bool
+fn respond(
+    rt: &(impl Print + Eprint),
+    done: u64,
+    input: &[u8],
+    table: &mut [u8; TABLE],
+    list: &mut [u32; PLACES],
+) -> bool
     requires { (done + 1 < 2 ^ 64) × Reached done table.old list.old }
     ensures { Reached (done + 1) table.new list.new }
 {
     let mut room = [0u8; LINE];
     let n = answer(done, input, table, list, &mut room);
-    print(done, &room[..n])
+    print(rt, done, &room[..n])
 }
 
 // Prints how many bytes were left over, if any were.
-fn print_cut(done: u64, left: usize)
+fn print_cut(rt: &(impl Print + Eprint), done: u64, left: usize)
     requires { (done + 1 < 2 ^ 64) × (left < command_length) }
 {
     if left == 0 {
@@ -73,7 +79,7 @@ fn print_cut(done: u64, left: usize)
     }
     let mut room = [0u8; CUT];
     let n = line::put_cut(&mut room, left as u64);
-    print(done, &room[..n]);
+    print(rt, done, &room[..n]);
 }
 
 // What reading came to: how many bytes are there, and whether it failed.
@@ -84,31 +90,30 @@ struct Reading {
 }
 
 // Reads once, behind the bytes that are there; answers how many came.
-fn read_more(input: &mut [u8], have: usize) -> Reading
+fn read_more(from: &mut impl Read, input: &mut [u8], have: usize) -> Reading
     requires { have ≤ length input.old }
     ensures { have + result.bytes ≤ length input.old }
 {
     let part = &mut input[have..];
-    let got = libc::read(STDIN_FILENO, part);
-    if got < 0 {
-        return Reading {
+    match from.read(part) {
+        Ok(bytes) => Reading {
+            bytes,
+            failed: false,
+        },
+        Err(_) => Reading {
             bytes: 0,
             failed: true,
-        };
-    }
-    Reading {
-        bytes: io::count(got, part),
-        failed: false,
+        },
     }
 }
 
 // Reads until the record is full, the input ends or reading fails: at each turn so many bytes are there.
-fn read_record(input: &mut [u8]) -> Reading
+fn read_record(from: &mut impl Read, input: &mut [u8]) -> Reading
     ensures { result.bytes ≤ length input.old }
 {
     let mut have = 0;
     while have < input.len() {
-        let more = read_more(input, have);
+        let more = read_more(from, input, have);
         if more.failed {
             return Reading {
                 bytes: have,
@@ -128,35 +133,43 @@ fn read_record(input: &mut [u8]) -> Reading
 
 // Reads a command, runs it and prints its line; answers whether to go on. Bytes that stand before a failure are not
 // cut: the input has not ended.
-fn step(done: u64, table: &mut [u8; TABLE], list: &mut [u32; PLACES]) -> bool
+fn step(
+    rt: &(impl Print + Eprint),
+    from: &mut impl Read,
+    done: u64,
+    table: &mut [u8; TABLE],
+    list: &mut [u32; PLACES],
+) -> bool
     requires { (done + 1 < 2 ^ 64) × Reached done table.old list.old }
     ensures { result ≡ true → Reached (done + 1) table.new list.new }
 {
     let mut input = [0u8; COMMAND];
-    let got = read_record(&mut input);
+    let got = read_record(from, &mut input);
     if got.failed {
         complain(
-            b"bench: could not read command ",
+            rt,
+            "bench: could not read command ",
             done + 1,
-            b" from standard input\n",
+            " from standard input\n",
         );
         return false;
     }
     if got.bytes < COMMAND {
-        print_cut(done, got.bytes);
+        print_cut(rt, done, got.bytes);
         return false;
     }
-    respond(done, &input, table, list)
+    respond(rt, done, &input, table, list)
 }
 
 // A proved loop has to end, and nothing says that the input does: it ends with the command numbers, which no run uses
 // up.
-fn main() {
+fn main(rt: HostRuntime) {
+    let mut from = rt.stdin();
     let mut table = [0u8; TABLE];
     let mut list = [0u32; PLACES];
     let mut done: u64 = 0;
     while done < u64::MAX {
-        if !step(done, &mut table, &mut list) {
+        if !step(&rt, &mut from, done, &mut table, &mut list) {
             return;
         }
         done += 1;

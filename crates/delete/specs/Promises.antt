@@ -48,7 +48,8 @@ module _ (l : List ℕ) (card arity : ℕ) where
     where
       go :
           (b : Bool)
-          → ((pick b (changed (deleted arity (records_of l) v)) (refused (refusal_of l card arity) l)).refusal ≡ done → ⊥)
+          → ((pick b (changed (deleted arity (records_of l) v)) (refused (refusal_of l card arity) l)).refusal ≡ done
+          → ⊥)
           → ((pick b (changed (deleted arity (records_of l) v)) (refused (refusal_of l card arity) l)).count ≡ 0)
           × ((pick b (changed (deleted arity (records_of l) v)) (refused (refusal_of l card arity) l)).table ≡ l)
       go true n = absurd (n refl)

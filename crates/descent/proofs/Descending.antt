@@ -233,7 +233,8 @@ module _ {l₀ x l : List ℕ} {kind arity root depth a away left count : ℕ}
         (sym at_a)
         (sym rows_lifted)
 
-    pub walk_ends : test ≡ true → descent (records_of m) a (count + n) ≡ descended d x arity (records_of l₀) depth root 1
+    pub walk_ends : test ≡ true
+        → descent (records_of m) a (count + n) ≡ descended d x arity (records_of l₀) depth root 1
     walk_ends y =
         sym (turn ∙ ap (λ (t : Bool). pick t ended onward) y) ∙ w.rest
 

@@ -1,7 +1,8 @@
 -- "Cards are distinct; timestamps are distinct" (paper, "Well formed"), for the keys at the first n places of a row:
 -- those that are not 0 are all different. A free record has 0 for both keys, so zeros are left aside. As a test by
 -- order's `distinct`, as a statement, and what a loop over the keys learns of it. Assumes nothing.
-use Rattle.std.specs.Prelude.{ℕ, zero, suc, ◌+◌, ◌≤◌, ◌<◌, ◌≡◌, refl, Bool, true, false, not, ◌&&◌, ◌||◌, List, [], ◌∷◌, ◌++◌, eqb, length, take, set}
+use Rattle.std.specs.Prelude.{ℕ, zero, suc, ◌+◌, ◌≤◌, ◌<◌, ◌≡◌, refl, Bool, true, false, not, ◌&&◌, ◌||◌, List, [], ◌∷◌}
+use Rattle.std.specs.Prelude.{◌++◌, eqb, length, take, set}
 use Rattle.std.proofs.Common.{sym, ap, ◌∙◌, arith, add-one, eq-eqb, ne_eqb, take-suc-set}
 use Rattle.std.proofs.lemmas.Bool.{false≢true, not-true}
 use Rattle.places.specs.Cases.{equal_or}

@@ -64,6 +64,7 @@ module _ (c : ℕ) where
       on ne rest (later j) = let z = rest j in (later z.0, z.1)
 
   without_to : (xs : List Newcomer) (y : Newcomer) → Memᴰ y xs → (y.card ≡ c → ⊥) → Memᴰ y (without c xs)
+  without_to [] y x'' n = elim x'' [ ]
   without_to (x ∷ xs) y (first e) n =
       rw (without_other x xs (λ q. n (ap (λ (z : Newcomer). z.card) e ∙ q))) (first e)
   without_to (x ∷ xs) y (later i) n = elim (ℕ_discrete x.card c) [

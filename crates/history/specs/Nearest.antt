@@ -92,6 +92,7 @@ same_card :
     → Memᴰ y l
     → x.card ≡ y.card
     → x ≡ y
+same_card [] once x y x6 _ same = elim x6 [ ]
 same_card (z ∷ l) once x y (first e) (first f) same = e ∙ sym f
 same_card (z ∷ l) once x y (first e) (later j) same =
     absurd (once.0 (subst (λ (c : ℕ). c ∈ cards_of l) (sym same ∙ ap (λ (w : Newcomer). w.card) e)

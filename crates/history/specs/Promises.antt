@@ -1,5 +1,7 @@
--- The promises, whole. Each call's outcome (`clear_of`, `insert_of`, `delete_of`, `search_of`, `nearest_of`, `check_of`,
--- `all_cards_of`, `one_card_of`) is what its contract equates the code with, so each statement here is about what the code
+-- The promises, whole. Each call's outcome (`clear_of`, `insert_of`, `delete_of`, `search_of`, `nearest_of`,
+-- `check_of`,
+-- `all_cards_of`, `one_card_of`) is what its contract equates the code with, so each statement here is about what the
+-- code
 -- does. Read first History.antt, what a history is, and Demands.antt, what is asked. Assumes nothing.
 use Rattle.std.specs.Prelude.{ℕ, ◌+◌, ◌≤◌, ◌≡◌, true, ◌&&◌, not, ◌↔◌, List, [], ◌∷◌, leb, ltb, eqb, length}
 use Rattle.std.proofs.Math.Path.{refl}
@@ -11,7 +13,8 @@ use Rattle.table.specs.Table.{right_size, records_in, records_of}
 use Rattle.writing.specs.Clear.{Cleared, clear_of}
 use Rattle.judge.specs.WellFormed.{WellFormed, well_formed}
 use Rattle.survey.specs.Survey.{used_in, slot_of_card, lowest_free, largest_timestamp}
-use Rattle.refusals.specs.Refusal.{SIZE, TABLE, ARGUMENT, KIND, TWICE, ABSENT, FULL, CLOCK, SHORT, LOOSE, first_of, done}
+use Rattle.refusals.specs.Refusal.{SIZE, TABLE, ARGUMENT, KIND, TWICE, ABSENT, FULL, CLOCK, SHORT, LOOSE, first_of}
+use Rattle.refusals.specs.Refusal.{done}
 use Rattle.admission.specs.Query.{other_kind, known_change}
 use Rattle.distance.specs.Kind.{known_kind}
 use Rattle.insert.specs.Insert.{insert_of, right_arguments}
@@ -108,7 +111,10 @@ module _ (l : List ℕ) where
       → Refuses
       ((not (right_size (length l)), SIZE)
       ∷ (not (well_formed (records_in l) (record_of l)), TABLE)
-      ∷ (not ((known_kind kind && eqb (length signature) signature_length) && (leb 1 k && leb k most_nearest)), ARGUMENT)
+      ∷ (
+        not ((known_kind kind && eqb (length signature) signature_length) && (leb 1 k && leb k most_nearest)),
+        ARGUMENT,
+      )
       ∷ (other_kind (records_in l) (record_of l) kind, KIND)
       ∷ (ltb (length list) k, SHORT)
       ∷ [])

@@ -1,1 +1,2 @@
 // Theory alone: histories of calls, and what holds after each.
+#![tactic(auto)]

@@ -125,7 +125,8 @@ module _ (l : List ℕ) (card kind arity : ℕ) (s : List ℕ) where
       pub holds_placed : records_of after ≡ (inserted l card kind arity s).rows
       unfolding changed inserted
       holds_placed =
-          let rows = (placed (apart kind) arity (lowest_free n (record_of l)) (comer card kind s) (records_of l)).rows in
+          let rows =
+          (placed (apart kind) arity (lowest_free n (record_of l)) (comer card kind s) (records_of l)).rows in
           let fits = placed_fits ready (row_fits l bytes) (omega arith) (readings_fit s 0 signature) clock in
           ap (λ (o : Outcome). records_of o.table) outcome ∙ rows_back rows fits
 

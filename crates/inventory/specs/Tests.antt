@@ -30,7 +30,8 @@ use Rattle.inventory.specs.Row.{row_laid}
 
 module _ (l : List ℕ) (list : List ℕ) where
   pub cards_accepted :
-      Cards.refusal_of l (length list) ≡ done → all_cards_of l list ≡ listing (cards_in (records_in l) (record_of l)) list
+      Cards.refusal_of l (length list) ≡ done
+      → all_cards_of l list ≡ listing (cards_in (records_in l) (record_of l)) list
   unfolding all_cards_of
   cards_accepted e = rw (eq-eqb _ _ e)
 

@@ -115,7 +115,8 @@ module _ (n : ℕ) (R : ℕ → Record) (small : n ≤ no_slot) where
   pub counted_formed : Counted n R → WellFormed n R
   unfolding time_before one_root
   counted_formed c =
-      let root : Roots n R = (roots_decided n R).shows (eq-eqb (root_count n R) (if_any (used_count n R)) c.one_root_lem) in
+      let root : Roots n R =
+      (roots_decided n R).shows (eq-eqb (root_count n R) (if_any (used_count n R)) c.one_root_lem) in
       let kind : (a : ℕ) → a < n → Used (R a) → kind_before R n ≡ (R a).kind =
       kinds_before R n (λ a b u. (known_between (R a).kind (c.filled a b u).kind_known).0) c.same_kind_lem in
       record {

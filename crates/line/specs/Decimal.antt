@@ -1,6 +1,27 @@
 -- A number's digits by two equations in which no turn is counted: one digit below 10, else those of a tenth and one
 -- more. A number below 10 to the power k has at most k. Assumes nothing.
-use Rattle.std.specs.Prelude.{ℕ, zero, suc, ◌+◌, ◌/◌, ◌%◌, ◌^◌, ◌≤◌, ◌<◌, ◌≡◌, refl, Bool, true, false, List, [], ◌∷◌, ◌++◌, ltb, length}
+use Rattle.std.specs.Prelude.{
+  ℕ,
+  zero,
+  suc,
+  ◌+◌,
+  ◌/◌,
+  ◌%◌,
+  ◌^◌,
+  ◌≤◌,
+  ◌<◌,
+  ◌≡◌,
+  refl,
+  Bool,
+  true,
+  false,
+  List,
+  [],
+  ◌∷◌,
+  ◌++◌,
+  ltb,
+  length,
+}
 use Rattle.std.proofs.Common.{ap, ◌∙◌, arith, lt-ltb, le-ltb, ltb-false, length-append}
 use Rattle.std.proofs.Math.Decide.{dec_lt}
 use Rattle.places.specs.Choice.{pick}
@@ -71,7 +92,9 @@ decimal_within_lem (suc k) n h = elim (dec_lt n 10) [
   | no large ↦
       let ten : 10 ≤ n = omega arith in
       decimal_more n ten
-      ∙ rw (le-ltb n 10 ten) (ap (λ (l : List ℕ). l ++ (digit (n % 10) ∷ [])) (decimal_within_lem k (n / 10) (omega arith)))
+      ∙ rw
+      (le-ltb n 10 ten)
+      (ap (λ (l : List ℕ). l ++ (digit (n % 10) ∷ [])) (decimal_within_lem k (n / 10) (omega arith)))
 ]
 
 -- what the types of the code hold: 8, 32 and 64 bits

@@ -4,7 +4,6 @@ use Rattle.std.specs.Prelude.{ℕ, suc, ◌+◌, ◌*◌, ◌^◌, ◌≤◌, �
 use Rattle.std.proofs.Common.{arith, length-append}
 use Rattle.line.specs.Line.{space, newline, decimal, row_of, line_of, cut_of}
 use Rattle.line.specs.Decimal.{few_digits_8, few_digits_32, few_digits_64}
-use Rattle.line.specs.Laws.{cut_length}
 
 -- a number of 32 bits takes a space and ten digits; the command number takes twenty, the refusal three
 abbrev pub room_for : ℕ → ℕ
@@ -56,4 +55,8 @@ line_fits number refusal count found cards n r c f h =
     )
 
 pub cut_fits : (left : ℕ) → left < 2 ^ 64 → length (cut_of left) ≤ 25
-cut_fits left h = omega (arith, cut_length left, few_digits_64 left h)
+unfolding cut_of row_of
+cut_fits left h =
+    let row = length-append (space ∷ decimal left) [] in
+    let all = length-append ((space ∷ decimal left) ++ []) (newline ∷ []) in
+    omega (arith, row, all, few_digits_64 left h)

@@ -19,7 +19,8 @@ use Rattle.table.specs.Record.{Record, free, record_of}
 use Rattle.table.specs.Table.{at, records_of}
 use Rattle.table.specs.Size.{rows_are}
 use Rattle.writing.specs.Put.{put_radius}
-use Rattle.judge.specs.WellFormed.{well_formed, is_free, is_filled, past_count, all_formed, distinct, one_kind, one_root}
+use Rattle.judge.specs.WellFormed.{well_formed, is_free, is_filled, past_count, all_formed, distinct, one_kind}
+use Rattle.judge.specs.WellFormed.{one_root}
 use Rattle.judge.specs.WellFormed.{all_hung, all_owned, all_rising}
 use Rattle.survey.specs.Survey.{first_from, used_in, root_of, kind_of, slot_of_card, lowest_free, largest_timestamp}
 use Rattle.tree.specs.View.{distance_count, child_counts, under}

@@ -113,7 +113,8 @@ module _ {m : ℕ} (some : 1 ≤ m) (small : m ≤ most_records) {st : State} (h
 
   delete_same_placed :
       (card arity : ℕ)
-      → deleted arity (records_of l) (slot_of_card (records_in l) (record_of l) card) ≡ delete_placed (records_of l) card arity
+      → deleted arity (records_of l) (slot_of_card (records_in l) (record_of l) card) ≡ delete_placed (records_of l)
+      card arity
   unfolding delete_placed
   delete_same_placed card arity =
       ap₂ (λ (k : ℕ) (S : ℕ → Record). deleted arity (records_of l) (slot_of_card k S card))

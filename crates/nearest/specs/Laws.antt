@@ -29,7 +29,8 @@ use Rattle.nearest.specs.Keys.{pair_in, keys_held}
 
 module _ (l : List ℕ) (kind : ℕ) (s : List ℕ) (k : ℕ) (list : List Pair) where
   pub accepted_is :
-      refusal_of l kind s k (length list) ≡ done → nearest_of l kind s k list ≡ listing_of l kind (readings_at s 0) k list
+      refusal_of l kind s k (length list) ≡ done
+      → nearest_of l kind s k list ≡ listing_of l kind (readings_at s 0) k list
   unfolding nearest_of
   accepted_is e = rw (eq-eqb _ _ e)
 

@@ -1,7 +1,9 @@
 -- A list that a loop fills from the front until it is another list; entries written one after another; zeros.
 -- Assumes nothing.
-use Rattle.std.specs.Prelude.{ℕ, zero, suc, ◌+◌, ◌≤◌, ◌<◌, ◌≡◌, refl, List, [], ◌∷◌, ◌++◌, get_or, set, length, drop, replicate}
-use Rattle.std.proofs.Common.{ap, ◌∙◌, arith, zero-add, add-zero, add-suc, suc-add, below_more, get_or-set_same, get_or-set_other, ext_get_or}
+use Rattle.std.specs.Prelude.{ℕ, zero, suc, ◌+◌, ◌≤◌, ◌<◌, ◌≡◌, refl, List, [], ◌∷◌, ◌++◌, get_or, set, length, drop}
+use Rattle.std.specs.Prelude.{replicate}
+use Rattle.std.proofs.Common.{ap, ◌∙◌, arith, zero-add, add-zero, add-suc, suc-add, below_more, get_or-set_same}
+use Rattle.std.proofs.Common.{get_or-set_other, ext_get_or}
 use Rattle.std.proofs.lemmas.List.Edits.{sets, sets-eq}
 
 -- the first i places of l hold what m holds there

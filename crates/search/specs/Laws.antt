@@ -48,7 +48,8 @@ module _ (n : ℕ) (R : ℕ → Record) (kind : ℕ) (q : List ℕ) (r : ℕ) wh
   unfolding compared_slots
   compared_none e = rw (eq-eqb _ _ e)
 
-  compared_some : 1 ≤ used_in n R → compared_slots n R kind q r ≡ compared (view_of R) (root_of n R) (entered n R kind q r)
+  compared_some : 1 ≤ used_in n R
+      → compared_slots n R kind q r ≡ compared (view_of R) (root_of n R) (entered n R kind q r)
   unfolding compared_slots
   compared_some h = rw (ne_eqb (used_in n R) 0 (λ e. omega arith))
 
@@ -64,7 +65,8 @@ module _ (n : ℕ) (R : ℕ → Record) (kind : ℕ) (q : List ℕ) (r : ℕ) wh
   ]
 
   -- no record is compared twice
-  pub compared_distinct : (1 ≤ used_in n R → Formed (view_of R) n (root_of n R)) → Distinct (compared_slots n R kind q r)
+  pub compared_distinct : (1 ≤ used_in n R → Formed (view_of R) n (root_of n R))
+      → Distinct (compared_slots n R kind q r)
   compared_distinct formed = elim (ℕ_discrete (used_in n R) 0) [
     | yes e ↦ rw (compared_none e) tt
     | no ne ↦

@@ -89,7 +89,8 @@ module _ (n : ℕ) (R : ℕ → Record) (kind : ℕ) (q : List ℕ) (r : ℕ) wh
           (entered_some some)
           (omega (
             arith,
-            listed_length kind (view_of R) q r (visit (apart kind) (view_of R) q r (used_in n R) (root_of n R) no_bound),
+            listed_length kind (view_of R) q r (visit (apart kind) (view_of R) q r (used_in n R) (root_of n R)
+                no_bound),
             used_at_most
                 wf
                 (visit (apart kind) (view_of R) q r (used_in n R) (root_of n R) no_bound)
@@ -128,7 +129,8 @@ pub walk_entered :
     ≡ entered n (record_of l) kind q r
 walk_entered l q n kind r h f some =
     let fits : (a : ℕ) → Fit (record_of l a).readings = λ a. (record_fits l a h).readings in
-    visit_from_farthest (apart kind) (view_of (record_of l)) q r (apart_distance kind) f fits farthest (omega arith) _ _ _
+    visit_from_farthest (apart kind) (view_of (record_of l)) q r (apart_distance kind) f fits farthest (omega arith) _
+    _ _
     ∙ sym (entered_some n (record_of l) kind q r some)
 
 -- ---- the call
@@ -155,7 +157,8 @@ module _ {l : List ℕ} (ok : Readable l) (bytes : Bytes l) (kind : ℕ) (q : Li
       (distances (records_in l) (record_of l) kind q r)
   walk_leaves used root list u o =
       rw (u, o)
-      (ap (after (asked (record_of l) kind q r) (state list 0 1)) (walk_entered l q (records_in l) kind r bytes fit some)
+      (ap (after (asked (record_of l) kind q r) (state list 0 1)) (walk_entered l q (records_in l) kind r bytes fit
+      some)
       ∙ after_walk (records_in l) (record_of l) kind q r some list)
 
   pub walk_fits :

@@ -80,7 +80,8 @@ module _ (l : List ℕ) (kind : ℕ) (s : List ℕ) (m : ℕ) where
       let later = or_right argument (other || (short || false)) none in
       record {
         readable = admitted_readable l admitted;
-        bytes = query_length kind s (not-false (known_query kind s) (or_left argument (other || (short || false)) none));
+        bytes =
+            query_length kind s (not-false (known_query kind s) (or_left argument (other || (short || false)) none));
         of_kind = query_kind (records_in l) (record_of l) kind (or_left other (short || false) later);
         room =
             ltb-false m (used_in (records_in l) (record_of l))

@@ -137,31 +137,32 @@ byte_number : (l : List ℕ) (at : ℕ) → number_at 1 l at ≡ get_or l at 0
 unfolding number_at
 byte_number l at = omega arith
 
-module _ (m : List ℕ) (a : ℕ) (l : List ℕ) (b : ℕ) (hm : Bytes m) (hl : Bytes l) (e : record_at m a ≡ record_at l b) where
-  more : (k w : ℕ) → Alike k m a l b → number_at w m (a + k) ≡ number_at w l (b + k) → Alike (k + w) m a l b
-  more = alike_more m a l b hm hl
+module _ (m : List ℕ) (a : ℕ) (l : List ℕ) (b : ℕ) (hm : Bytes m) (hl : Bytes l) (e : record_at m a ≡ record_at l b)
+  where
+    more : (k w : ℕ) → Alike k m a l b → number_at w m (a + k) ≡ number_at w l (b + k) → Alike (k + w) m a l b
+    more = alike_more m a l b hm hl
 
-  as_number : (k : ℕ) → get_or m (a + k) 0 ≡ get_or l (b + k) 0 → number_at 1 m (a + k) ≡ number_at 1 l (b + k)
-  as_number k q = byte_number m (a + k) ∙ q ∙ sym (byte_number l (b + k))
+    as_number : (k : ℕ) → get_or m (a + k) 0 ≡ get_or l (b + k) 0 → number_at 1 m (a + k) ≡ number_at 1 l (b + k)
+    as_number k q = byte_number m (a + k) ∙ q ∙ sym (byte_number l (b + k))
 
-  -- bytes 0 to 15, field after field
-  alike_head : Alike 16 m a l b
-  unfolding record_at
-  alike_head =
-      let card = alike_number 4 m a l b hm hl (ap (λ (r : Record). r.card) e) in
-      let timestamp = more 4 4 card (ap (λ (r : Record). r.timestamp) e) in
-      let radius = more 8 4 timestamp (ap (λ (r : Record). r.radius) e) in
-      let parent = more 12 2 radius (ap (λ (r : Record). r.parent) e) in
-      let count = more 14 1 parent (as_number 14 (ap (λ (r : Record). r.count) e)) in
-      more 15 1 count (as_number 15 (ap (λ (r : Record). r.kind) e))
+    -- bytes 0 to 15, field after field
+    alike_head : Alike 16 m a l b
+    unfolding record_at
+    alike_head =
+        let card = alike_number 4 m a l b hm hl (ap (λ (r : Record). r.card) e) in
+        let timestamp = more 4 4 card (ap (λ (r : Record). r.timestamp) e) in
+        let radius = more 8 4 timestamp (ap (λ (r : Record). r.radius) e) in
+        let parent = more 12 2 radius (ap (λ (r : Record). r.parent) e) in
+        let count = more 14 1 parent (as_number 14 (ap (λ (r : Record). r.count) e)) in
+        more 15 1 count (as_number 15 (ap (λ (r : Record). r.kind) e))
 
-  pub alike_record : Alike record_length m a l b
-  alike_record =
-      let slots =
-      alike_row m a l b hm hl 16 most_children alike_head
-      (λ i p. sym (slot_in m a i p) ∙ ap (λ (r : Record). slot r i) e ∙ slot_in l b i p) in
-      alike_row m a l b hm hl 32 16 slots
-      (λ i p. sym (reading_in m a i p) ∙ ap (λ (r : Record). get_or r.readings i 0) e ∙ reading_in l b i p)
+    pub alike_record : Alike record_length m a l b
+    alike_record =
+        let slots =
+        alike_row m a l b hm hl 16 most_children alike_head
+        (λ i p. sym (slot_in m a i p) ∙ ap (λ (r : Record). slot r i) e ∙ slot_in l b i p) in
+        alike_row m a l b hm hl 32 16 slots
+        (λ i p. sym (reading_in m a i p) ∙ ap (λ (r : Record). get_or r.readings i 0) e ∙ reading_in l b i p)
 
 -- ---- free records
 

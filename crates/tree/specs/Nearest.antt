@@ -1,6 +1,7 @@
 -- "The nearest few cards" (02, #101) as the list of the records taken, by their slots. The slots compared (`compared`
 -- of View), the distance count (`distance_count` of View) and the cards held are functions of that list.
-use Rattle.std.specs.Prelude.{ℕ, suc, zero, ◌+◌, ◌-◌, ◌/◌, min, max, Bool, true, false, ◌&&◌, ◌||◌, cond, ◌≡◌, List, [], ◌∷◌, eqb, ltb, length, get_or, take}
+use Rattle.std.specs.Prelude.{ℕ, suc, zero, ◌+◌, ◌-◌, ◌/◌, min, max, Bool, true, false, ◌&&◌, ◌||◌, cond, ◌≡◌, List, []}
+use Rattle.std.specs.Prelude.{◌∷◌, eqb, ltb, length, get_or, take}
 use Rattle.tree.specs.Sorted.{put_by, sort_by}
 use Rattle.tree.specs.View.{View, away, compared, used_count}
 pub mod Order

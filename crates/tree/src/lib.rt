@@ -1,1 +1,2 @@
 // The tree's mathematics: definitions and theorems alone (specs/), and no code.
+#![tactic(auto)]

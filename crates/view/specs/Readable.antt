@@ -60,4 +60,5 @@ module _ {l : List ℕ} (ok : Readable l) where
   pub readable_root :
       1 ≤ used_in (records_in l) (record_of l) → Stands l (root_of (records_in l) (record_of l))
   readable_root some =
-      stands_in l (root_of (records_in l) (record_of l)) (root_of_is (records_in l) (record_of l) readable_formed some).0
+      stands_in l (root_of (records_in l) (record_of l)) (root_of_is (records_in l) (record_of l) readable_formed
+      some).0

@@ -33,7 +33,8 @@ used_in_used_count (suc n) R = omega (arith, used_in_used_count n R, one_used (R
 
 module _ (n : ℕ) (R : ℕ → Record) where
   pub root_of_is :
-      WellFormed n R → 1 ≤ used_in n R → (root_of n R < n) × Used (R (root_of n R)) × ((R (root_of n R)).parent ≡ no_slot)
+      WellFormed n R → 1 ≤ used_in n R
+      → (root_of n R < n) × Used (R (root_of n R)) × ((R (root_of n R)).parent ≡ no_slot)
   root_of_is wf some =
       let w = used_in_some n R some in
       let z = wf.a_root w.0 w.1 w.2 in

@@ -1,7 +1,8 @@
 -- Loop: how far a search for the nearest cards has come, as the code has it: two lists of keys in rising order, and the
 -- distances counted. Rows says how they stand in the code's rows; `Lean` of the tree's Nearest has the same work over
 -- slots.
-use Rattle.std.specs.Prelude.{ℕ, zero, suc, ◌+◌, ◌-◌, ◌/◌, min, max, Bool, ◌&&◌, ◌||◌, cond, List, [], ◌∷◌, eqb, leb, ltb, length, get_or, take}
+use Rattle.std.specs.Prelude.{ℕ, zero, suc, ◌+◌, ◌-◌, ◌/◌, min, max, Bool, ◌&&◌, ◌||◌, cond, List, [], ◌∷◌, eqb, leb}
+use Rattle.std.specs.Prelude.{ltb, length, get_or, take}
 use Rattle.order.specs.Order.{put_among}
 use Rattle.distance.specs.Laws.{farthest}
 use Rattle.table.specs.Record.{Record, children}

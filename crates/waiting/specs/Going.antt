@@ -3,7 +3,8 @@
 use Prim.Native.Nat.{ℕ, zero, suc, ◌+◌, ◌-◌, ◌≤◌, ◌<◌, min}
 use Rattle.std.specs.Prelude.{◌≡◌, Bool, cond, length, get_or, take, drop}
 use Rattle.std.proofs.Math.Path.{refl}
-use Rattle.std.proofs.Common.{sym, ap, ◌∙◌, add-one, length-take, drop_of_length-le, get_or-take, length-take-le, drop-cons}
+use Rattle.std.proofs.Common.{sym, ap, ◌∙◌, add-one, length-take, drop_of_length-le, get_or-take, length-take-le}
+use Rattle.std.proofs.Common.{drop-cons}
 use Rattle.std.proofs.Math.Bool.{true, false}
 use mathlib.Core.List.{List, [], ◌∷◌}
 use native.Mathlib.Omega.{arith}

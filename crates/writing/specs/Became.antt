@@ -34,7 +34,8 @@ pub records_with :
     → Became l s (f (record_of l s)) m
     → s < records_in l
     → records_of m ≡ set (records_of l) s (f (at (records_of l) s))
-records_with {l} {m} {s} f b h = b.records ∙ ap (λ (r : Record). set (records_of l) s (f r)) (sym (records_in_lem l s h))
+records_with {l} {m} {s} f b h =
+    b.records ∙ ap (λ (r : Record). set (records_of l) s (f r)) (sym (records_in_lem l s h))
 
 -- the same change, in other words
 pub became_by : {l m k : List ℕ} {s : ℕ} {r q : Record} → Became l s r m → r ≡ q → k ≡ m → Became l s q k

@@ -23,13 +23,18 @@ returns-then-not-right_size c =
 
 pub links-seen-requires : goal.links-seen-requires
 links-seen-requires c =
-    let l = c.args.t.now in
-    (are_stand l (records_in l) (right_are l (right (goal.at.links-seen-requires c).Else-not-right_size)), right_most l (right (goal.at.links-seen-requires c).Else-not-right_size))
+    let l = c.args.t.now in (
+      are_stand l (records_in l) (right_are l (right (goal.at.links-seen-requires c).Else-not-right_size)),
+      right_most l (right (goal.at.links-seen-requires c).Else-not-right_size),
+    )
 
 pub formed-requires : goal.formed-requires
 formed-requires c =
-    let l = c.args.t.now in
-    (are_stand l (records_in l) (right_are l (right (goal.at.formed-requires c).Else-not-right_size)), right_most l (right (goal.at.formed-requires c).Else-not-right_size), c.links-seen.ensures)
+    let l = c.args.t.now in (
+      are_stand l (records_in l) (right_are l (right (goal.at.formed-requires c).Else-not-right_size)),
+      right_most l (right (goal.at.formed-requires c).Else-not-right_size),
+      c.links-seen.ensures,
+    )
 
 pub returns-then-not-formed : goal.returns-then-not-formed
 returns-then-not-formed c =

@@ -5,7 +5,8 @@ use Rattle.std.proofs.Common.{sym, ◌∙◌, arith}
 use Rattle.std.proofs.lemmas.Bool.{not-true, not-false}
 use Rattle.distinct.specs.Distinct.{distinct_to}
 use Rattle.table.specs.Record.{record_of, no_slot}
-use Rattle.admission.specs.Verdict.{numbers_agree, unfit_not, children_few, numbers_not, cards_not, timestamps_decide, rising_apart}
+use Rattle.admission.specs.Verdict.{numbers_agree, unfit_not, children_few, numbers_not, cards_not, timestamps_decide}
+use Rattle.admission.specs.Verdict.{rising_apart}
 use Rattle.admission.proofs.formed.Goals.{Else-not-keys_distinct, Else-not-numbers_agree, Else-not-seen, Start}
 use Rattle.admission.proofs.formed.Goals as goal
 
@@ -29,29 +30,36 @@ returns-then-not-seen c =
 
 pub numbers_agree-requires : goal.numbers_agree-requires
 numbers_agree-requires c =
-    children_few c.args.n (record_of c.args.t.now) (small (goal.at.numbers_agree-requires c).Start) c.args.seen c.requires.2 (fits (goal.at.numbers_agree-requires c).Else-not-seen) c.requires.1
+    children_few c.args.n (record_of c.args.t.now) (small (goal.at.numbers_agree-requires c).Start) c.args.seen
+    c.requires.2 (fits (goal.at.numbers_agree-requires c).Else-not-seen) c.requires.1
 
 pub returns-then-not-numbers_agree : goal.returns-then-not-numbers_agree
 returns-then-not-numbers_agree c =
-    numbers_not c.args.n (record_of c.args.t.now) (small (goal.at.returns-then-not-numbers_agree c).Start) c.args.seen c.requires.2 (fits (goal.at.returns-then-not-numbers_agree c).Else-not-seen)
+    numbers_not c.args.n (record_of c.args.t.now) (small (goal.at.returns-then-not-numbers_agree c).Start) c.args.seen
+    c.requires.2 (fits (goal.at.returns-then-not-numbers_agree c).Else-not-seen)
     (sym c.numbers_agree.ensures ∙ c.if-not-numbers_agree.true)
 
 pub returns-then-not-keys_distinct : goal.returns-then-not-keys_distinct
 returns-then-not-keys_distinct c =
-    cards_not c.args.n (record_of c.args.t.now) (small (goal.at.returns-then-not-keys_distinct c).Start) c.args.seen c.requires.2 (fits (goal.at.returns-then-not-keys_distinct c).Else-not-seen) (agree (goal.at.returns-then-not-keys_distinct c).Else-not-numbers_agree)
+    cards_not c.args.n (record_of c.args.t.now) (small (goal.at.returns-then-not-keys_distinct c).Start) c.args.seen
+    c.requires.2 (fits (goal.at.returns-then-not-keys_distinct c).Else-not-seen)
+    (agree (goal.at.returns-then-not-keys_distinct c).Else-not-numbers_agree)
     (sym c.keys_distinct.ensures ∙ c.if-not-keys_distinct.true)
 
 pub returns-then-seen : goal.returns-then-seen
 returns-then-seen c =
-    timestamps_decide c.args.n (record_of c.args.t.now) (small (goal.at.returns-then-seen c).Start) c.args.seen c.requires.2 (fits (goal.at.returns-then-seen c).Else-not-seen) true
+    timestamps_decide c.args.n (record_of c.args.t.now) (small (goal.at.returns-then-seen c).Start) c.args.seen
+    c.requires.2 (fits (goal.at.returns-then-seen c).Else-not-seen) true
     (agree (goal.at.returns-then-seen c).Else-not-numbers_agree)
     (told_apart (goal.at.returns-then-seen c).Else-not-keys_distinct)
-    (rising_apart c.args.n (record_of c.args.t.now) (small (goal.at.returns-then-seen c).Start) c.args.seen c.requires.2 (fits (goal.at.returns-then-seen c).Else-not-seen)
+    (rising_apart c.args.n (record_of c.args.t.now) (small (goal.at.returns-then-seen c).Start) c.args.seen
+    c.requires.2 (fits (goal.at.returns-then-seen c).Else-not-seen)
     c.if-seen.true)
 
 pub returns : goal.returns
 returns c =
-    timestamps_decide c.args.n (record_of c.args.t.now) (small (goal.at.returns c).Start) c.args.seen c.requires.2 (fits (goal.at.returns c).Else-not-seen)
+    timestamps_decide c.args.n (record_of c.args.t.now) (small (goal.at.returns c).Start) c.args.seen c.requires.2
+    (fits (goal.at.returns c).Else-not-seen)
     c.keys_distinct-2.result
     (agree (goal.at.returns c).Else-not-numbers_agree)
     (told_apart (goal.at.returns c).Else-not-keys_distinct)

@@ -7,7 +7,8 @@ use Rattle.distance.specs.Mask.{word_gap}
 use Rattle.compare.proofs.masks_apart.Given as goal
 
 abbrev pub invariant-loop-k : goal.invariant-loop-k
-invariant-loop-k l = (l.k ≤ 4) × (l.sum ≡ sum_to l.k (word_gap (readings_at l.t l.at) (readings_at l.q l.from))) × (l.sum ≤ 64 * l.k)
+invariant-loop-k l =
+    (l.k ≤ 4) × (l.sum ≡ sum_to l.k (word_gap (readings_at l.t l.at) (readings_at l.q l.from))) × (l.sum ≤ 64 * l.k)
 
 abbrev pub decreases-loop-k : goal.decreases-loop-k
 decreases-loop-k l = 4 - l.k

@@ -9,7 +9,8 @@ use Rattle.table.specs.Table.{records_in}
 use Rattle.table.specs.Stands.{stand_all}
 use Rattle.survey.specs.Survey.{slot_of_card}
 use Rattle.admission.specs.Admission.{admission_tests}
-use Rattle.delete.specs.Call.{outcome_at, same_refusal, right_arity, admission_refused, argument_refused, absent_refused, present_done}
+use Rattle.delete.specs.Call.{outcome_at, same_refusal, right_arity, admission_refused, argument_refused}
+use Rattle.delete.specs.Call.{absent_refused, present_done}
 use Rattle.delete.specs.Plan.{present_deletable}
 use Rattle.delete.proofs.delete.Goals.{Else-admitted-ne-DONE, Else-not-known_change}
 use Rattle.delete.proofs.delete.Goals as goal
@@ -49,12 +50,14 @@ returns-then-n-v c =
     let absent : records_in l ≤ slot_of_card (records_in l) (record_of l) a.card =
     omega (arith, c.if-n-v.true, c.slot_of_card-v.ensures) in
     same_refusal l c.refused-then-n-v.ensures.0 c.refused-then-n-v.ensures.1
-    ∙ absent_refused l a.card a.arity (admitted (goal.at.returns-then-n-v c).Else-admitted-ne-DONE) (right (goal.at.returns-then-n-v c).Else-not-known_change) absent
+    ∙ absent_refused l a.card a.arity (admitted (goal.at.returns-then-n-v c).Else-admitted-ne-DONE)
+    (right (goal.at.returns-then-n-v c).Else-not-known_change) absent
 
 pub delete_at-requires : goal.delete_at-requires
 delete_at-requires c =
     let a = c.args in (
-      present_deletable a.t.now a.card a.arity c.admit-admitted.result c.admit-admitted.ensures c.if-admitted-ne-DONE.false (right (goal.at.delete_at-requires c).Else-not-known_change)
+      present_deletable a.t.now a.card a.arity c.admit-admitted.result c.admit-admitted.ensures
+          c.if-admitted-ne-DONE.false (right (goal.at.delete_at-requires c).Else-not-known_change)
           c.slot_of_card-v.result c.slot_of_card-v.ensures (omega (arith, c.if-n-v.false)),
       right_arity a.card a.arity (right (goal.at.delete_at-requires c).Else-not-known_change),
     )
@@ -67,4 +70,5 @@ returns c =
     omega (arith, c.if-n-v.false, c.slot_of_card-v.ensures) in
     c.delete_at.ensures
     ∙ ap (λ (v : ℕ). outcome_at l v a.arity) c.slot_of_card-v.ensures
-    ∙ present_done l a.card a.arity (admitted (goal.at.returns c).Else-admitted-ne-DONE) (right (goal.at.returns c).Else-not-known_change) inside
+    ∙ present_done l a.card a.arity (admitted (goal.at.returns c).Else-admitted-ne-DONE)
+    (right (goal.at.returns c).Else-not-known_change) inside

@@ -42,15 +42,15 @@ nearer : (c : Joined-e-near) →
     (c.if-e-near.best ≡ pick (ltb e l.near) c.child_of-c.result l.best)
     × (c.if-e-near.near ≡ pick (ltb e l.near) e l.near)
 nearer c = elim c.if-e-near.branch [
-    then-e-near w ↦ (
-      w.best-is ∙ simp (lt-ltb _ _ w.if-e-near.true),
-      w.near-is ∙ simp (lt-ltb _ _ w.if-e-near.true),
-    )
+  | then-e-near w ↦ (
+    w.best-is ∙ simp (lt-ltb _ _ w.if-e-near.true),
+    w.near-is ∙ simp (lt-ltb _ _ w.if-e-near.true),
+  )
   | else-e-near w ↦ (
-      w.best-is ∙ simp (le-ltb _ _ w.if-e-near.false),
-      w.near-is ∙ simp (le-ltb _ _ w.if-e-near.false),
-    )
-  ]
+    w.best-is ∙ simp (le-ltb _ _ w.if-e-near.false),
+    w.near-is ∙ simp (le-ltb _ _ w.if-e-near.false),
+  )
+]
 
 pub loop-k-preserved : goal.loop-k-preserved
 loop-k-preserved c =
@@ -73,13 +73,15 @@ loop-t-preserved c =
     let w = c.loop-t.invariant in
     let r = c.raise.ensures in
     let fit = c.requires.2 in
-    walk_on w r (λ k. (c.slice_known-in-loop-t-1.given k).fits) fit c.loop-k.invariant c.loop-k-test.false c.if-n-left.false
+    walk_on w r (λ k. (c.slice_known-in-loop-t-1.given k).fits) fit c.loop-k.invariant c.loop-k-test.false
+    c.if-n-left.false
 
 pub returns : goal.returns
 returns c =
     let w = c.loop-t.invariant in
     let r = c.raise.ensures in
     let fit = c.requires.2 in (
-      walk_ends w r (λ k. (c.slice_known-in-loop-t-1.given k).fits) fit c.loop-k.invariant c.loop-k-test.false c.if-n-left.true,
+      walk_ends w r (λ k. (c.slice_known-in-loop-t-1.given k).fits) fit c.loop-k.invariant c.loop-k-test.false
+          c.if-n-left.true,
       omega (arith, w.small, w.some, few w r, c.loop-k.invariant.count_is),
     )

@@ -22,14 +22,14 @@ loop-i-preserved c =
     let l = c.loop-i in
     let key : ℕ → ℕ = key_at (goal.at.loop-i-preserved c).At-loop-i in
     elim c.if-key-ne0.branch [
-      then-key-ne0 w ↦ (
+      | then-key-ne0 w ↦ (
         omega arith,
         omega arith,
         rw w.kept-is (length-set l.kept l.m (key l.i) ∙ l.invariant.2),
         refl,
         rw (w.kept-is, w.m-is) (kept_more l.i key l.kept l.m (omega arith) w.if-key-ne0.true l.invariant.4),
       )
-    | else-key-ne0 w ↦ (
+      | else-key-ne0 w ↦ (
         omega arith,
         omega arith,
         rw w.kept-is l.invariant.2,

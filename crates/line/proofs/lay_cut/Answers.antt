@@ -13,7 +13,7 @@ room c = omega (arith, c.requires, cut_length c.args.left)
 
 -- as many bytes as were lent
 as_long : (c : After-put_next-end) → length c.put_next-end.new.out ≡ length c.args.out.now
-as_long c = c.put_next-end.auto.0 ∙ length-sets c.args.out.now 0 cut_word
+as_long c = c.put_next-end.auto.out ∙ length-sets c.args.out.now 0 cut_word
 
 pub bounds-out-0 : goal.bounds-out-0
 bounds-out-0 c = omega (arith, room (goal.at.bounds-out-0 c).Start)
@@ -30,15 +30,17 @@ put_next-end-requires c =
 
 pub bounds-out-end : goal.bounds-out-end
 bounds-out-end c =
-    omega (arith, room (goal.at.bounds-out-end c).Start, c.put_next-end.ensures.0, as_long (goal.at.bounds-out-end c).After-put_next-end)
+    let p = goal.at.bounds-out-end c in
+    omega (arith, room p.Start, c.put_next-end.ensures.0, as_long p.After-put_next-end)
 
 pub overflow_add-result : goal.overflow_add-result
 overflow_add-result c =
-    omega (arith, room (goal.at.overflow_add-result c).Start, c.put_next-end.ensures.0, c.well_formed.0.0)
+    omega (arith, room (goal.at.overflow_add-result c).Start, c.put_next-end.ensures.0)
 
 pub shape_of-out : goal.shape_of-out
 shape_of-out c =
-    length-set c.put_next-end.new.out c.put_next-end.result newline ∙ as_long (goal.at.shape_of-out c).After-put_next-end
+    length-set c.put_next-end.new.out c.put_next-end.result newline
+    ∙ as_long (goal.at.shape_of-out c).After-put_next-end
 
 pub returns : goal.returns
 returns c =

@@ -1,6 +1,6 @@
 -- `line::put_line` meets its contract: the line's length is counted first, and it is laid only if it fits. Assumes
 -- nothing.
-use Rattle.std.specs.Prelude.{ℕ, ◌+◌, ◌≡◌, refl, List, ◌∷◌, length, take}
+use Rattle.std.specs.Prelude.{ℕ, ◌+◌, ◌≡◌, refl, List, [], ◌∷◌, length, take}
 use Rattle.std.proofs.Common.{sym, ap, ◌∙◌, arith}
 use Rattle.std.proofs.lemmas.List.Edits.{sets}
 use Rattle.line.specs.Line.{line_of}
@@ -41,17 +41,20 @@ size c = let a = c.args in
 pub returns-then-out-size : goal.returns-then-out-size
 returns-then-out-size c =
     let a = c.args in
-    sym (no_room (line_at (goal.at.returns-then-out-size c).After-row_places-2) a.out.now (omega (arith, size (goal.at.returns-then-out-size c).After-row_places-2)))
+    let p = (goal.at.returns-then-out-size c).After-row_places-2 in
+    sym (no_room (line_at p) a.out.now (omega (arith, size p)))
 
 pub lay_line-requires : goal.lay_line-requires
 lay_line-requires c =
-    (refl, c.shown-k.ensures.0, omega (arith, size (goal.at.lay_line-requires c).After-row_places-2, ap length (same_line (goal.at.lay_line-requires c).After-row_places-2)))
+    let p = (goal.at.lay_line-requires c).After-row_places-2 in
+    (refl, c.shown-k.ensures.0, omega (arith, size p, ap length (same_line p)))
 
 pub returns : goal.returns
 returns c =
     let a = c.args in
-    let same = same_line (goal.at.returns c).After-row_places-2 in
+    let p = (goal.at.returns c).After-row_places-2 in
+    let same = same_line p in
     same_laid
     (c.lay_line.ensures.0 ∙ ap length same)
     (c.lay_line.ensures.1 ∙ ap (λ (l : List ℕ). sets a.out.now 0 l) same)
-    ∙ sym (into_room (line_at (goal.at.returns c).After-row_places-2) a.out.now (omega (arith, size (goal.at.returns c).After-row_places-2, c.if-out-size.false)))
+    ∙ sym (into_room (line_at p) a.out.now (omega (arith, size p, c.if-out-size.false)))

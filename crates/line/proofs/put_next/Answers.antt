@@ -10,7 +10,7 @@ put_number-requires c =
 
 pub shape_of-out : goal.shape_of-out
 shape_of-out c =
-    c.put_number.auto.0 ∙ length-set c.args.out.now c.args.at space
+    c.put_number.auto.out ∙ length-set c.args.out.now c.args.at space
 
 pub returns : goal.returns
 returns c =

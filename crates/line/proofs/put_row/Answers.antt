@@ -54,7 +54,7 @@ loop-i-preserved c =
     done.0
     done.1 in (
       omega arith,
-      c.put_next-next.auto.0 ∙ inv.1,
+      c.put_next-next.auto.out ∙ inv.1,
       omega (arith, next_length (goal.at.loop-i-preserved c).After-wide, inv.2, done.0),
       step ∙ inv.3,
     )

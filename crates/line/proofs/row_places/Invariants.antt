@@ -6,7 +6,8 @@ use Rattle.line.specs.Laws.{row_left}
 use Rattle.line.proofs.row_places.Given as goal
 
 abbrev pub invariant-loop-i : goal.invariant-loop-i
-invariant-loop-i l = (l.i ≤ l.k) × (l.counted ≤ 21 * l.i) × (l.counted + length (row_left l.numbers l.k l.i) ≡ length (row_of (take l.k l.numbers)))
+invariant-loop-i l = (l.i ≤ l.k) × (l.counted ≤ 21 * l.i)
+    × (l.counted + length (row_left l.numbers l.k l.i) ≡ length (row_of (take l.k l.numbers)))
 
 abbrev pub decreases-loop-i : goal.decreases-loop-i
 decreases-loop-i l = l.k - l.i

@@ -7,7 +7,8 @@ use Rattle.table.specs.Stands.{Stands, stands_below}
 use Rattle.judge.specs.WellFormed.{is_root}
 use Rattle.links.specs.Loop.Found.{OneBefore}
 use Rattle.links.specs.Loop.Seen.{SeenBefore, with_free, with_used, looked_unfit, looked_fit}
-use Rattle.links.specs.Loop.Turn.{seen_left, seen_free, seen_used, free_unfit, kind_unfit, record_unfit, root_still, root_here, root_twice, told}
+use Rattle.links.specs.Loop.Turn.{seen_left, seen_free, seen_used, free_unfit, kind_unfit, record_unfit, root_still}
+use Rattle.links.specs.Loop.Turn.{root_here, root_twice, told}
 use Rattle.links.proofs.look.Goals.{After-parent_of, Else-card_of-eq0, Start}
 use Rattle.links.proofs.look.Goals as goal
 
@@ -31,7 +32,11 @@ used_too c root = seen_used c.args.n (record_of c.args.t.now) c.args.s c.args.se
     c.timestamp_of-timestamp.result
     root
     c.requires.stand_to.2
-    (in_use (record { before = c.before.before.before.before.before.before.before.before.before.before; type_inv = record { t = c.type_inv.t } }))
+    (in_use (record {
+      before = c.before.before.before.before.before.before.before.before.before.before;
+      type_inv =
+          record { t = c.type_inv.t };
+    }))
     c.if-seen-kind.false
     (sym c.record_ok.ensures ∙ c.if-not-record_ok.false)
     c.kind_of-kind.ensures
@@ -85,7 +90,8 @@ returns-then-seen-kind c =
     let kind = c.kind_of-kind in
     looked_unfit c.args.n (record_of c.args.t.now) c.args.s c.misfit-then-seen-kind.result c.args.seen
     (kind_unfit c.args.n (record_of c.args.t.now) c.args.s c.args.seen c.requires.stand_to.3
-    kind.result c.requires.stand_to.2 (in_use (goal.at.returns-then-seen-kind c).Else-card_of-eq0) kind.ensures c.if-seen-kind.true)
+    kind.result c.requires.stand_to.2 (in_use (goal.at.returns-then-seen-kind c).Else-card_of-eq0) kind.ensures
+    c.if-seen-kind.true)
     c.misfit-then-seen-kind.ensures
 
 pub record_ok-requires : goal.record_ok-requires
@@ -93,12 +99,23 @@ record_ok-requires c =
     let p = c.requires.stand_to in
     let kind = c.kind_of-kind.ensures in
     let count = c.count_of-count.ensures in
-    record { first_value = c.requires.first_value; stand_to = (p.0, p.2, in_use (goal.at.record_ok-requires c).Else-card_of-eq0, kind, count, c.timestamp_of-timestamp.ensures) }
+    record {
+      first_value = c.requires.first_value;
+      stand_to = (
+        p.0,
+        p.2,
+        in_use (goal.at.record_ok-requires c).Else-card_of-eq0,
+        kind,
+        count,
+        c.timestamp_of-timestamp.ensures,
+      );
+    }
 
 pub returns-then-not-record_ok : goal.returns-then-not-record_ok
 returns-then-not-record_ok c =
     looked_unfit c.args.n (record_of c.args.t.now) c.args.s c.misfit-then-not-record_ok.result c.args.seen
-    (record_unfit c.args.n (record_of c.args.t.now) c.args.s c.requires.stand_to.2 (in_use (goal.at.returns-then-not-record_ok c).Else-card_of-eq0)
+    (record_unfit c.args.n (record_of c.args.t.now) c.args.s c.requires.stand_to.2
+    (in_use (goal.at.returns-then-not-record_ok c).Else-card_of-eq0)
     (sym c.record_ok.ensures ∙ c.if-not-record_ok.true))
     c.misfit-then-not-record_ok.ensures
 

@@ -35,7 +35,8 @@ returns c =
     let r = record_of c.args.t.now c.args.s in
     let known = c.type_inv.t in
     (λ i.
-    leb (first_floor (goal.at.returns c).Start i) (c.four_slots.ensures i) && leb (last_floor (goal.at.returns c).Start i) (c.four_slots-2.ensures i))
+    leb (first_floor (goal.at.returns c).Start i) (c.four_slots.ensures i) && leb
+    (last_floor (goal.at.returns c).Start i) (c.four_slots-2.ensures i))
     ∙ past_told r
     (slots_fit c.args.t.now c.args.s (λ i. omega (arith, known i)))
     (omega (arith, c.requires.stands.1, c.requires.stands.2))

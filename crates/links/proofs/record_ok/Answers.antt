@@ -21,7 +21,11 @@ tested c t e = sym
 
 fields : (c : Else-timestamp-known_kind) → Plain (c.args.timestamp) c.args.kind c.args.count
 fields c = let a = c.args in
-    plain (c.args.timestamp) a.kind a.count (tested (record { before = c.before.before; type_inv = record { t = c.type_inv.t } }) false c.if-timestamp-known_kind.false)
+    plain (c.args.timestamp) a.kind a.count (tested (record {
+      before = c.before.before;
+      type_inv =
+          record { t = c.type_inv.t };
+    }) false c.if-timestamp-known_kind.false)
 
 pub returns-then-timestamp-known_kind : goal.returns-then-timestamp-known_kind
 returns-then-timestamp-known_kind c =
@@ -42,8 +46,13 @@ past_ok-requires c =
     }
 
 pub children_ok-requires : goal.children_ok-requires
-children_ok-requires c =
-    (c.requires.stand_to.0, c.requires.stand_to.1, c.requires.stand_to.4, (fields (goal.at.children_ok-requires c).Else-timestamp-known_kind).few, c.requires.stand_to.5)
+children_ok-requires c = (
+  c.requires.stand_to.0,
+  c.requires.stand_to.1,
+  c.requires.stand_to.4,
+  (fields (goal.at.children_ok-requires c).Else-timestamp-known_kind).few,
+  c.requires.stand_to.5,
+)
 
 -- where the fields are in their ranges, the child slots decide
 decided : (c : Else-timestamp-known_kind) (p l : Bool)
@@ -63,4 +72,5 @@ returns-then-past_ok c =
 pub returns-else-past_ok : goal.returns-else-past_ok
 returns-else-past_ok c =
     c.if-past_ok.false
-    ∙ decided (goal.at.returns-else-past_ok c).Else-timestamp-known_kind false (all_linked c.args.n (record_of c.args.t.now) c.args.s) (sym c.if-past_ok.false ∙ c.past_ok.ensures) refl
+    ∙ decided (goal.at.returns-else-past_ok c).Else-timestamp-known_kind false
+    (all_linked c.args.n (record_of c.args.t.now) c.args.s) (sym c.if-past_ok.false ∙ c.past_ok.ensures) refl

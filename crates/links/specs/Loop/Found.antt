@@ -114,7 +114,8 @@ module _ (p : ℕ → Bool) (n : ℕ) where
 
   -- where no two pass, one is the first
   pub some_end :
-      (a : ℕ) → ((i j : ℕ) → i < n → j < n → p i ≡ true → p j ≡ true → i ≡ j) → SomeBefore p n n a → a ≡ first_from p 0 n
+      (a : ℕ) → ((i j : ℕ) → i < n → j < n → p i ≡ true → p j ≡ true → i ≡ j) → SomeBefore p n n a
+      → a ≡ first_from p 0 n
   some_end a one (inl h) =
       sym
       (first_is p 0 n a

@@ -29,7 +29,15 @@ told : (c : After-pairs_of-pairs) →
     ≡ nearest_pairs (records_in a.t.now) (record_of a.t.now) a.kind a.q.readings a.k
 told c = c.pairs_of-pairs.ensures.0
     ∙ ap (map pair_in) c.search_from-f.ensures.0
-    ∙ pairs_told c.args.kind c.args.k (some (record { before = c.before.before.before.before.before.before; type_inv = record { t = c.type_inv.t } })) (given (record { before = c.before.before.before.before.before.before; type_inv = record { t = c.type_inv.t } }))
+    ∙ pairs_told c.args.kind c.args.k (some (record {
+      before = c.before.before.before.before.before.before;
+      type_inv =
+          record { t = c.type_inv.t };
+    })) (given (record {
+      before = c.before.before.before.before.before.before;
+      type_inv =
+          record { t = c.type_inv.t };
+    }))
 
 pub returns-then-used-eq0 : goal.returns-then-used-eq0
 returns-then-used-eq0 c =
@@ -45,6 +53,7 @@ returns c =
     let a = c.args in
     let f = c.search_from-f.result in (
       listing_is a.t.now a.kind a.q.readings a.k 0 f.count f.held f.held c.pairs_of-pairs.result
-          refl c.search_from-f.ensures.1 (told (goal.at.returns c).After-pairs_of-pairs) (omega (arith, c.pairs_of-pairs.ensures.1)) refl,
+          refl c.search_from-f.ensures.1 (told (goal.at.returns c).After-pairs_of-pairs)
+          (omega (arith, c.pairs_of-pairs.ensures.1)) refl,
       c.search_from-f.ensures.2,
     )

@@ -10,19 +10,33 @@ use Rattle.survey.specs.Answers.{Answers}
 use Rattle.nearest.specs.Nearest.{refusal_of}
 use Rattle.nearest.specs.Tests.{Accepted, accepted, refusal_admits}
 use Rattle.nearest.specs.Laws.{accepted_is, refuses}
-use Rattle.nearest.proofs.nearest.Goals.{After-admit-lent, After-refusal_of-refusal, After-signature_at-q, Else-refusal-ne-DONE}
+use Rattle.nearest.proofs.nearest.Goals.{After-admit-lent, After-refusal_of-refusal, After-signature_at-q}
+use Rattle.nearest.proofs.nearest.Goals.{Else-refusal-ne-DONE}
 use Rattle.nearest.proofs.nearest.Goals as goal
 
 -- the refusal of this call
 abbrev refusal : After-admit-lent → ℕ
 refusal c = let a = c.args in refusal_of a.t.now a.kind a.signature.now a.k a.room
 
-refusal_is : (c : After-refusal_of-refusal) → c.refusal_of-refusal.result ≡ refusal (record { before = c.before.before; type_inv = record { signature = c.type_inv.signature; t = c.type_inv.t } })
+refusal_is : (c : After-refusal_of-refusal) → c.refusal_of-refusal.result ≡ refusal (record {
+  before =
+      c.before.before;
+  type_inv = record { signature = c.type_inv.signature; t = c.type_inv.t };
+})
 refusal_is c = c.refusal_of-refusal.ensures c.args.t.now c.admit-lent.ensures
 
 -- what is known where no test refuses the call
-none : (c : Else-refusal-ne-DONE) → refusal (record { before = c.before.before.before; type_inv = record { signature = c.type_inv.signature; t = c.type_inv.t } }) ≡ done
-none c = sym (refusal_is (record { before = c.before.before; type_inv = record { signature = c.type_inv.signature; t = c.type_inv.t } })) ∙ c.if-refusal-ne-DONE.false
+none : (c : Else-refusal-ne-DONE) → refusal (record {
+  before = c.before.before.before;
+  type_inv =
+      record { signature = c.type_inv.signature; t = c.type_inv.t };
+}) ≡ done
+none c =
+    sym (refusal_is (record {
+      before = c.before.before;
+      type_inv =
+          record { signature = c.type_inv.signature; t = c.type_inv.t };
+    })) ∙ c.if-refusal-ne-DONE.false
 
 passed : (c : Else-refusal-ne-DONE) →
     let a = c.args in
@@ -49,7 +63,9 @@ returns-then-refusal-ne-DONE c =
     let a = c.args in
     let x = c.nothing.ensures in (
       rw x.1 (refuses a.t.now a.kind a.signature.now a.k a.room
-          c.refusal_of-refusal.result _ _ (sym (refusal_is (goal.at.returns-then-refusal-ne-DONE c).After-refusal_of-refusal)) c.if-refusal-ne-DONE.true x.0),
+          c.refusal_of-refusal.result _ _
+          (sym (refusal_is (goal.at.returns-then-refusal-ne-DONE c).After-refusal_of-refusal))
+          c.if-refusal-ne-DONE.true x.0),
       omega (arith, x.0),
       omega (arith, x.0),
     )
@@ -62,7 +78,10 @@ pub accepted-requires : goal.accepted-requires
 accepted-requires c =
     let p = passed (goal.at.accepted-requires c).Else-refusal-ne-DONE in
     let x = answers (goal.at.accepted-requires c).Else-refusal-ne-DONE in
-    record { readable = (p.readable, query_fit (goal.at.accepted-requires c).After-signature_at-q, p.one, p.most); used_value = (x.used, x.root) }
+    record {
+      readable = (p.readable, query_fit (goal.at.accepted-requires c).After-signature_at-q, p.one, p.most);
+      used_value = (x.used, x.root);
+    }
 
 pub returns : goal.returns
 returns c =
@@ -71,7 +90,8 @@ returns c =
     let p = passed (goal.at.returns c).Else-refusal-ne-DONE in (
       λ list long.
           rw (
-            accepted_is a.t.now a.kind a.signature.now a.k list (ap (refusal_of _ _ _ _) long ∙ none (goal.at.returns c).Else-refusal-ne-DONE),
+            accepted_is a.t.now a.kind a.signature.now a.k list (ap (refusal_of _ _ _ _) long
+                ∙ none (goal.at.returns c).Else-refusal-ne-DONE),
             ← c.signature_at-q.ensures,
           )
           (r.0 list),

@@ -27,7 +27,13 @@ known c = sym c.right_arguments.ensures ∙ c.if-not-right_arguments.false
 
 other : (c : After-other_kind) (l : List ℕ) →
     Admits l c.args.lent → other_kind (records_in l) (record_of l) c.args.kind ≡ c.other_kind.result
-other c l a = sym (c.other_kind.ensures ∙ other_found_lem _ (answers (record { before = c.before.before.before.before.before; type_inv = record { signature = c.type_inv.signature } }) l a))
+other c l a =
+    sym (c.other_kind.ensures
+    ∙ other_found_lem _ (answers (record {
+      before = c.before.before.before.before.before;
+      type_inv =
+          record { signature = c.type_inv.signature };
+    }) l a))
 
 pub returns-then-lent-ne-DONE : goal.returns-then-lent-ne-DONE
 returns-then-lent-ne-DONE c = λ l a.
@@ -37,25 +43,29 @@ returns-then-lent-ne-DONE c = λ l a.
 pub returns-then-not-right_arguments : goal.returns-then-not-right_arguments
 returns-then-not-right_arguments c = λ l a.
     let b = c.args in
-    refusal_argument l b.kind b.signature.now b.k b.room (admitted (goal.at.returns-then-not-right_arguments c).Else-lent-ne-DONE l a)
+    refusal_argument l b.kind b.signature.now b.k b.room
+    (admitted (goal.at.returns-then-not-right_arguments c).Else-lent-ne-DONE l a)
     (sym c.right_arguments.ensures ∙ c.if-not-right_arguments.true)
 
 pub returns-then-other_kind : goal.returns-then-other_kind
 returns-then-other_kind c = λ l a.
     let b = c.args in
-    refusal_kind l b.kind b.signature.now b.k b.room (admitted (goal.at.returns-then-other_kind c).Else-lent-ne-DONE l a) (known (goal.at.returns-then-other_kind c).Else-not-right_arguments)
+    refusal_kind l b.kind b.signature.now b.k b.room (admitted (goal.at.returns-then-other_kind c).Else-lent-ne-DONE l
+    a) (known (goal.at.returns-then-other_kind c).Else-not-right_arguments)
     (other (goal.at.returns-then-other_kind c).After-other_kind l a ∙ c.if-other_kind.true)
 
 pub returns-then-room-k : goal.returns-then-room-k
 returns-then-room-k c = λ l a.
     let b = c.args in
-    refusal_short l b.kind b.signature.now b.k b.room (admitted (goal.at.returns-then-room-k c).Else-lent-ne-DONE l a) (known (goal.at.returns-then-room-k c).Else-not-right_arguments)
+    refusal_short l b.kind b.signature.now b.k b.room (admitted (goal.at.returns-then-room-k c).Else-lent-ne-DONE l a)
+    (known (goal.at.returns-then-room-k c).Else-not-right_arguments)
     (other (goal.at.returns-then-room-k c).After-other_kind l a ∙ c.if-other_kind.false)
     (omega (arith, c.if-room-k.true))
 
 pub returns : goal.returns
 returns c = λ l a.
     let b = c.args in
-    refusal_none l b.kind b.signature.now b.k b.room (admitted (goal.at.returns c).Else-lent-ne-DONE l a) (known (goal.at.returns c).Else-not-right_arguments)
+    refusal_none l b.kind b.signature.now b.k b.room (admitted (goal.at.returns c).Else-lent-ne-DONE l a)
+    (known (goal.at.returns c).Else-not-right_arguments)
     (other (goal.at.returns c).After-other_kind l a ∙ c.if-other_kind.false)
     (omega (arith, c.if-room-k.false))

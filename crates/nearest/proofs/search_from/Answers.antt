@@ -44,12 +44,24 @@ away_from-away-requires c = root_stands (goal.at.away_from-away-requires c).Afte
 
 pub meet-start-requires : goal.meet-start-requires
 meet-start-requires c =
-    let p = c.requires in record { stands = (root_stands (goal.at.meet-start-requires c).After-slice_known-1, c.away_from-away.ensures.1, omega arith); rows = (first_rows refl p.readable.4 p.readable.2 p.readable.3, omega arith) }
+    let p = c.requires in
+    record {
+      stands =
+          (root_stands (goal.at.meet-start-requires c).After-slice_known-1, c.away_from-away.ensures.1, omega arith);
+      rows = (first_rows refl p.readable.4 p.readable.2 p.readable.3, omega arith);
+    }
 
 pub take_all-requires : goal.take_all-requires
 take_all-requires c =
     let b = begun (goal.at.take_all-requires c).After-meet-start in
-    record { walkable = (readable_walkable c.requires.readable.0, right_most c.args.t.now c.requires.readable.0.size, c.requires.readable.1); rows = (c.meet-start.ensures.1, begun_known b, ended_fits b) }
+    record {
+      walkable = (
+        readable_walkable c.requires.readable.0,
+        right_most c.args.t.now c.requires.readable.0.size,
+        c.requires.readable.1,
+      );
+      rows = (c.meet-start.ensures.1, begun_known b, ended_fits b);
+    }
 
 pub returns : goal.returns
 returns c =

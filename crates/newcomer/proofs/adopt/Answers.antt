@@ -3,24 +3,20 @@
 use Rattle.std.specs.Prelude.{◌+◌, ◌<◌, refl}
 use Rattle.std.proofs.Common.{arith}
 use Rattle.refusals.specs.Limits.{most_children}
-use Rattle.table.specs.Record.{Record, record_of}
+use Rattle.table.specs.Record.{record_of}
 use Rattle.writing.specs.Put.{with_slot, with_count}
 use Rattle.table.specs.Stands.{stands_same}
 use Rattle.writing.specs.Laws.{Became, put_slot_lem, put_count_lem, became_by}
 use Rattle.newcomer.proofs.Writes.{wrote_then, adopting_is}
-use Rattle.newcomer.proofs.adopt.Goals.{After-count_of-n, After-put_slot, Start}
+use Rattle.newcomer.proofs.adopt.Goals.{After-count_of-n, After-put_slot}
 use Rattle.newcomer.proofs.adopt.Goals as goal
-
--- the record that adopts
-abbrev was : Start → Record
-was b = record_of b.args.t.now b.args.a
 
 room : (c : After-count_of-n) → c.count_of-n.result < most_children
 room c = omega (arith, c.requires.2, c.count_of-n.ensures)
 
 child_put : (c : After-put_slot) →
     Became c.args.t.now c.args.a
-    (with_slot (was c.before.before.before.before) c.count_of-n.result c.args.s)
+    (with_slot (record_of c.args.t.now c.args.a) c.count_of-n.result c.args.s)
     c.put_slot.new.t
 child_put c = let n = c.count_of-n.result in
     became_by
@@ -39,5 +35,5 @@ returns c =
     became_by
     (wrote_then (λ r. with_count r (n + 1)) (child_put (goal.at.returns c).After-put_slot) c.requires.0
     (λ h. put_count_lem c.put_slot.new.t c.args.a h (n + 1) (omega (arith, small))))
-    (adopting_is (was (goal.at.returns c).Start) n c.args.s c.count_of-n.ensures)
+    (adopting_is (record_of c.args.t.now c.args.a) n c.args.s c.count_of-n.ensures)
     c.put_count.ensures

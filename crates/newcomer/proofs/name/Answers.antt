@@ -1,27 +1,23 @@
 -- `newcomer::name` meets its contract: card, kind and signature are written one after another. Assumes nothing.
 use Rattle.std.specs.Prelude.{refl}
 use Rattle.std.proofs.Common.{arith}
-use Rattle.table.specs.Record.{Record, record_of}
+use Rattle.table.specs.Record.{record_of}
 use Rattle.writing.specs.Put.{with_card, with_kind, with_readings}
 use Rattle.table.specs.Stands.{stands_same}
 use Rattle.writing.specs.Laws.{Became, put_card_lem, put_kind_lem, put_signature_lem, became_by}
 use Rattle.newcomer.proofs.Writes.{wrote_then}
-use Rattle.newcomer.proofs.name.Goals.{After-put_card, After-put_kind, Start}
+use Rattle.newcomer.proofs.name.Goals.{After-put_card, After-put_kind}
 use Rattle.newcomer.proofs.name.Goals as goal
 
--- the record that is written
-abbrev was : Start → Record
-was b = record_of b.args.t.now b.args.s
-
 card_put : (c : After-put_card) →
-    Became c.args.t.now c.args.s (with_card (was c.before.before.before) c.args.card) c.put_card.new.t
+    Became c.args.t.now c.args.s (with_card (record_of c.args.t.now c.args.s) c.args.card) c.put_card.new.t
 card_put c = became_by
     (put_card_lem c.args.t.now c.args.s c.requires.0 c.args.card (omega (arith, c.ranges.card)))
     refl
     c.put_card.ensures
 
 kind_put : (c : After-put_kind) →
-    Became c.args.t.now c.args.s (with_kind (with_card (was c.before.before.before.before.before.before.before) c.args.card) c.args.kind)
+    Became c.args.t.now c.args.s (with_kind (with_card (record_of c.args.t.now c.args.s) c.args.card) c.args.kind)
     c.put_kind.new.t
 kind_put c = let m = c.put_card.new.t in
     wrote_then (λ r. with_kind r c.args.kind) (card_put c.before.before.before.before) c.requires.0

@@ -2,46 +2,37 @@
 -- Assumes nothing.
 use Rattle.std.specs.Prelude.{refl}
 use Rattle.std.proofs.Common.{arith}
-use Rattle.table.specs.Record.{Record, record_of}
+use Rattle.table.specs.Record.{record_of}
 use Rattle.writing.specs.Put.{with_timestamp, with_radius, with_parent, with_count}
 use Rattle.table.specs.Stands.{stands_same}
 use Rattle.writing.specs.Laws.{Became, put_timestamp_lem, put_radius_lem, put_parent_lem, put_count_lem, became_by, then_with}
 use Rattle.newcomer.specs.Newcomer.{fresh, slotless}
 use Rattle.newcomer.proofs.Writes.{wrote_then}
-use Rattle.newcomer.proofs.seat.Goals.{After-put_count, After-put_parent, After-put_radius, After-put_timestamp, Start}
+use Rattle.newcomer.proofs.seat.Goals.{After-put_count, After-put_parent, After-put_radius, After-put_timestamp}
 use Rattle.newcomer.proofs.seat.Goals as goal
 
-abbrev was : Start → Record
-was b = record_of b.args.t.now b.args.s
-
-abbrev after_time : Start → Record
-after_time b = with_timestamp (was b) b.args.timestamp
-
-abbrev after_parent : Start → Record
-after_parent b = with_parent (with_radius (after_time b) 0) b.args.parent
-
 timestamp_put : (c : After-put_timestamp) →
-    Became c.args.t.now c.args.s (after_time c.before.before.before) c.put_timestamp.new.t
+    Became c.args.t.now c.args.s (with_timestamp (record_of c.args.t.now c.args.s) c.args.timestamp) c.put_timestamp.new.t
 timestamp_put c = became_by
     (put_timestamp_lem c.args.t.now c.args.s c.requires c.args.timestamp (omega (arith, c.ranges.timestamp)))
     refl
     c.put_timestamp.ensures
 
 radius_put : (c : After-put_radius) →
-    Became c.args.t.now c.args.s (with_radius (after_time c.before.before.before.before.before.before.before) 0) c.put_radius.new.t
+    Became c.args.t.now c.args.s (with_radius (with_timestamp (record_of c.args.t.now c.args.s) c.args.timestamp) 0) c.put_radius.new.t
 radius_put c = let m = c.put_timestamp.new.t in
     wrote_then (λ r. with_radius r 0) (timestamp_put c.before.before.before.before) c.requires
     (λ h. became_by (put_radius_lem m c.args.s h 0 (omega arith)) refl c.put_radius.ensures)
 
 parent_put : (c : After-put_parent) →
-    Became c.args.t.now c.args.s (after_parent c.before.before.before.before.before.before.before.before.before.before.before) c.put_parent.new.t
+    Became c.args.t.now c.args.s (with_parent (with_radius (with_timestamp (record_of c.args.t.now c.args.s) c.args.timestamp) 0) c.args.parent) c.put_parent.new.t
 parent_put c = let m = c.put_radius.new.t in
     let p = c.args.parent in
     wrote_then (λ r. with_parent r p) (radius_put c.before.before.before.before) c.requires
     (λ h. became_by (put_parent_lem m c.args.s h p (omega (arith, c.ranges.parent))) refl c.put_parent.ensures)
 
 count_put : (c : After-put_count) →
-    Became c.args.t.now c.args.s (with_count (after_parent c.before.before.before.before.before.before.before.before.before.before.before.before.before.before.before) 0) c.put_count.new.t
+    Became c.args.t.now c.args.s (with_count (with_parent (with_radius (with_timestamp (record_of c.args.t.now c.args.s) c.args.timestamp) 0) c.args.parent) 0) c.put_count.new.t
 count_put c = let m = c.put_parent.new.t in
     wrote_then (λ r. with_count r 0) (parent_put c.before.before.before.before) c.requires
     (λ h. became_by (put_count_lem m c.args.s h 0 (omega arith)) refl c.put_count.ensures)

@@ -1,5 +1,7 @@
--- `pairs::fill` meets its contract: a pair more of the answer is laid behind those that are laid already. Assumes nothing.
-use Rattle.std.proofs.Common.{ℕ, suc, ◌≡◌, ◌+◌, ◌<◌, ◌≤◌, List, [], ◌∷◌, ◌++◌, length, get_or, take, ap, ◌∙◌, sym, add-zero, add-suc, arith}
+-- `pairs::fill` meets its contract: a pair more of the answer is laid behind those that are laid already. Assumes
+-- nothing.
+use Rattle.std.proofs.Common.{ℕ, suc, ◌≡◌, ◌+◌, ◌<◌, ◌≤◌, List, [], ◌∷◌, ◌++◌, length, get_or, take, ap, ◌∙◌, sym}
+use Rattle.std.proofs.Common.{add-zero, add-suc, arith}
 use Rattle.std.proofs.Math.ListN.{set}
 use Rattle.std.proofs.Math.Seq.{take-suc, length-take-le}
 use Rattle.std.proofs.lemmas.List.Edits.{sets}

@@ -26,8 +26,11 @@ descend-host-requires c =
 
 pub adopt-requires : goal.adopt-requires
 adopt-requires c =
-    let ok = c.requires in
-    (host_stands ok (over (goal.at.adopt-requires c).After-descend-host), omega (arith, slot_few ok), host_room ok (over (goal.at.adopt-requires c).After-descend-host))
+    let ok = c.requires in (
+      host_stands ok (over (goal.at.adopt-requires c).After-descend-host),
+      omega (arith, slot_few ok),
+      host_room ok (over (goal.at.adopt-requires c).After-descend-host),
+    )
 
 pub overflow_cast-host : goal.overflow_cast-host
 overflow_cast-host c =

@@ -14,7 +14,7 @@ use Rattle.steps.specs.Step.{query}
 use Rattle.walk.specs.State.{State, state, state_of, Fits, walked}
 use Rattle.search.specs.Search.{no_bound, cards, distances, listing}
 use Rattle.search.specs.Listing.{listing_none, walk_leaves, walk_fits}
-use Rattle.search.proofs.accepted.Goals.{After-walk-r, Else-used-eq0}
+use Rattle.search.proofs.accepted.Goals.{Else-used-eq0}
 use Rattle.search.proofs.accepted.Goals as goal
 
 -- the table is used, and its bytes are bytes
@@ -66,23 +66,32 @@ away_from-away-requires c = root_stands (goal.at.away_from-away-requires c).Else
 
 pub walk-r-requires : goal.walk-r-requires
 walk-r-requires c =
-    let p = c.requires in record { walkable = (readable_walkable p.readable.0, root_stands (goal.at.walk-r-requires c).Else-used-eq0, p.readable.2, c.away_from-away.ensures.0); fits = subst (Fits c.args.list.now) (sym (leaves (goal.at.walk-r-requires c).Else-used-eq0)) (fits (goal.at.walk-r-requires c).Else-used-eq0).0 }
-
-walk_leaves_at : (c : After-walk-r)
-    → state_of c.walk-r.new.list c.walk-r.result ≡ listing_at (record { before = c.before.before.before.before; type_inv = record { list = ?; t = c.type_inv.t } })
-walk_leaves_at c = c.walk-r.ensures ∙ leaves (record { before = c.before.before.before.before; type_inv = record { list = ?; t = c.type_inv.t } })
+    let p = c.requires in
+    let h = (goal.at.walk-r-requires c).Else-used-eq0 in
+    record {
+      walkable = (readable_walkable p.readable.0, root_stands h, p.readable.2, c.away_from-away.ensures.0);
+      fits = subst (Fits c.args.list.now) (sym (leaves h)) (fits h).0;
+    }
 
 pub overflow_cast-result : goal.overflow_cast-result
 overflow_cast-result c =
-    omega (arith, (fits (goal.at.overflow_cast-result c).Else-used-eq0).0.1, ap (λ (z : State). z.count) (walk_leaves_at (goal.at.overflow_cast-result c).After-walk-r))
+    omega (
+      arith,
+      (fits (goal.at.overflow_cast-result c).Else-used-eq0).0.1,
+      ap (λ (z : State). z.count) (c.walk-r.ensures ∙ leaves (goal.at.overflow_cast-result c).Else-used-eq0),
+    )
 
 pub overflow_cast-result-2 : goal.overflow_cast-result-2
 overflow_cast-result-2 c =
-    omega (arith, (fits (goal.at.overflow_cast-result-2 c).Else-used-eq0).1, ap (λ (z : State). z.found) (walk_leaves_at (goal.at.overflow_cast-result-2 c).After-walk-r))
+    omega (
+      arith,
+      (fits (goal.at.overflow_cast-result-2 c).Else-used-eq0).1,
+      ap (λ (z : State). z.found) (c.walk-r.ensures ∙ leaves (goal.at.overflow_cast-result-2 c).Else-used-eq0),
+    )
 
 pub returns : goal.returns
 unfolding listing
 returns c =
     ap
     (λ (z : State). record { refusal = done; count = z.count; found = z.found; list = z.list })
-    (walk_leaves_at (goal.at.returns c).After-walk-r)
+    (c.walk-r.ensures ∙ leaves (goal.at.returns c).Else-used-eq0)

@@ -26,7 +26,13 @@ known c = sym c.known_query.ensures ∙ c.if-not-known_query.false
 
 other : (c : After-other_kind) (l : List ℕ) →
     Admits l c.args.lent → other_kind (records_in l) (record_of l) c.args.kind ≡ c.other_kind.result
-other c l a = sym (c.other_kind.ensures ∙ other_found_lem _ (answers (record { before = c.before.before.before.before.before; type_inv = record { signature = c.type_inv.signature } }) l a))
+other c l a =
+    sym (c.other_kind.ensures
+    ∙ other_found_lem _ (answers (record {
+      before = c.before.before.before.before.before;
+      type_inv =
+          record { signature = c.type_inv.signature };
+    }) l a))
 
 pub returns-then-lent-ne-DONE : goal.returns-then-lent-ne-DONE
 returns-then-lent-ne-DONE c = λ l a.
@@ -36,25 +42,29 @@ returns-then-lent-ne-DONE c = λ l a.
 pub returns-then-not-known_query : goal.returns-then-not-known_query
 returns-then-not-known_query c = λ l a.
     let b = c.args in
-    refusal_argument l b.kind b.signature.now b.room (admitted (goal.at.returns-then-not-known_query c).Else-lent-ne-DONE l a)
+    refusal_argument l b.kind b.signature.now b.room
+    (admitted (goal.at.returns-then-not-known_query c).Else-lent-ne-DONE l a)
     (sym c.known_query.ensures ∙ c.if-not-known_query.true)
 
 pub returns-then-other_kind : goal.returns-then-other_kind
 returns-then-other_kind c = λ l a.
     let b = c.args in
-    refusal_kind l b.kind b.signature.now b.room (admitted (goal.at.returns-then-other_kind c).Else-lent-ne-DONE l a) (known (goal.at.returns-then-other_kind c).Else-not-known_query)
+    refusal_kind l b.kind b.signature.now b.room (admitted (goal.at.returns-then-other_kind c).Else-lent-ne-DONE l a)
+    (known (goal.at.returns-then-other_kind c).Else-not-known_query)
     (other (goal.at.returns-then-other_kind c).After-other_kind l a ∙ c.if-other_kind.true)
 
 pub returns-then-room-found : goal.returns-then-room-found
 returns-then-room-found c = λ l a.
     let b = c.args in
-    refusal_short l b.kind b.signature.now b.room (admitted (goal.at.returns-then-room-found c).Else-lent-ne-DONE l a) (known (goal.at.returns-then-room-found c).Else-not-known_query)
+    refusal_short l b.kind b.signature.now b.room (admitted (goal.at.returns-then-room-found c).Else-lent-ne-DONE l a)
+    (known (goal.at.returns-then-room-found c).Else-not-known_query)
     (other (goal.at.returns-then-room-found c).After-other_kind l a ∙ c.if-other_kind.false)
     (omega (arith, c.if-room-found.true, (answers (goal.at.returns-then-room-found c).Else-lent-ne-DONE l a).used))
 
 pub returns : goal.returns
 returns c = λ l a.
     let b = c.args in
-    refusal_none l b.kind b.signature.now b.room (admitted (goal.at.returns c).Else-lent-ne-DONE l a) (known (goal.at.returns c).Else-not-known_query)
+    refusal_none l b.kind b.signature.now b.room (admitted (goal.at.returns c).Else-lent-ne-DONE l a)
+    (known (goal.at.returns c).Else-not-known_query)
     (other (goal.at.returns c).After-other_kind l a ∙ c.if-other_kind.false)
     (omega (arith, c.if-room-found.false, (answers (goal.at.returns c).Else-lent-ne-DONE l a).used))

@@ -10,19 +10,34 @@ use Rattle.survey.specs.Answers.{Answers}
 use Rattle.search.specs.Search.{refusal_of}
 use Rattle.search.specs.Tests.{Accepted, accepted, refusal_admits}
 use Rattle.search.specs.Laws.{accepted_is, refuses}
-use Rattle.search.proofs.search.Goals.{After-admit-lent, After-refusal_of-refusal, After-signature_at-q, Else-refusal-ne-DONE}
+use Rattle.search.proofs.search.Goals.{After-admit-lent, After-refusal_of-refusal, After-signature_at-q}
+use Rattle.search.proofs.search.Goals.{Else-refusal-ne-DONE}
 use Rattle.search.proofs.search.Goals as goal
 
 -- the refusal of this call
 abbrev refusal : After-admit-lent → ℕ
 refusal c = let a = c.args in refusal_of a.t.now a.kind a.signature.now (length a.list.now)
 
-refusal_is : (c : After-refusal_of-refusal) → c.refusal_of-refusal.result ≡ refusal (record { before = c.before.before; type_inv = record { list = c.type_inv.list; signature = c.type_inv.signature; t = c.type_inv.t } })
+refusal_is : (c : After-refusal_of-refusal) → c.refusal_of-refusal.result ≡ refusal (record {
+  before =
+      c.before.before;
+  type_inv = record { list = c.type_inv.list; signature = c.type_inv.signature; t = c.type_inv.t };
+})
 refusal_is c = c.refusal_of-refusal.ensures c.args.t.now c.admit-lent.ensures
 
 -- what is known where no test refuses the call
-none : (c : Else-refusal-ne-DONE) → refusal (record { before = c.before.before.before; type_inv = record { list = c.type_inv.list; signature = c.type_inv.signature; t = c.type_inv.t } }) ≡ done
-none c = sym (refusal_is (record { before = c.before.before; type_inv = record { list = c.type_inv.list; signature = c.type_inv.signature; t = c.type_inv.t } })) ∙ c.if-refusal-ne-DONE.false
+none : (c : Else-refusal-ne-DONE) → refusal (record {
+  before = c.before.before.before;
+  type_inv =
+      record { list = c.type_inv.list; signature = c.type_inv.signature; t = c.type_inv.t };
+}) ≡ done
+none c =
+    sym (refusal_is (record {
+      before = c.before.before;
+      type_inv =
+          record { list = c.type_inv.list; signature = c.type_inv.signature; t = c.type_inv.t };
+    }))
+    ∙ c.if-refusal-ne-DONE.false
 
 passed : (c : Else-refusal-ne-DONE) →
     let a = c.args in
@@ -62,7 +77,15 @@ pub accepted-requires : goal.accepted-requires
 accepted-requires c =
     let p = passed (goal.at.accepted-requires c).Else-refusal-ne-DONE in
     let x = answers (goal.at.accepted-requires c).Else-refusal-ne-DONE in
-    record { readable = (p.readable, query_fit (goal.at.accepted-requires c).After-signature_at-q, search rules, omega (arith, x.used, p.room)); used_value = (x.used, x.root) }
+    record {
+      readable = (
+        p.readable,
+        query_fit (goal.at.accepted-requires c).After-signature_at-q,
+        search rules,
+        omega (arith, x.used, p.room),
+      );
+      used_value = (x.used, x.root);
+    }
 
 pub returns : goal.returns
 returns c =

@@ -40,7 +40,8 @@ turned : (c : Joined-ds-j) →
     (x y : ℕ)
     → get_or a.ds c.loop-j.j 0 ≡ x
     → get_or a.ds a.k 0 ≡ y
-    → c.if-ds-j.lowest ≡ least (ltb (x + 2 * a.radius) y) ((record_of c.args.t.now) (slot ((record_of c.args.t.now) c.args.s) c.loop-j.j)).timestamp c.loop-j.lowest
+    → c.if-ds-j.lowest ≡ least (ltb (x + 2 * a.radius) y)
+    ((record_of c.args.t.now) (slot ((record_of c.args.t.now) c.args.s) c.loop-j.j)).timestamp c.loop-j.lowest
 turned c x y ex ey =
     let a = c.args in
     elim c.if-ds-j.branch [
@@ -68,8 +69,10 @@ loop-j-preserved c =
           let Q = asked (record_of c.args.t.now) kind q a.radius in
           ap
           (λ (z : ℕ). bound_on Q a.s a.k z (c.loop-j.j + 1))
-          (turned (goal.at.loop-j-preserved c).Joined-ds-j _ _ (h.each c.loop-j.j c.loop-j-test.true) (h.each a.k c.requires.k_lt_n.0))
-          ∙ sym (bound_step Q a.s (few (goal.at.loop-j-preserved c).At-loop-j) c.loop-j.lowest a.k c.loop-j.j (sibling_counted (goal.at.loop-j-preserved c).In-loop-j))
+          (turned (goal.at.loop-j-preserved c).Joined-ds-j _ _ (h.each c.loop-j.j c.loop-j-test.true)
+          (h.each a.k c.requires.k_lt_n.0))
+          ∙ sym (bound_step Q a.s (few (goal.at.loop-j-preserved c).At-loop-j) c.loop-j.lowest a.k c.loop-j.j
+          (sibling_counted (goal.at.loop-j-preserved c).In-loop-j))
           ∙ c.loop-j.invariant.2 kind q h,
     )
 
@@ -77,6 +80,7 @@ pub returns : goal.returns
 returns c = λ kind q h.
     let a = c.args in
     sym
-    (bound_end (asked (record_of c.args.t.now) kind q a.radius) a.s (few (goal.at.returns c).At-loop-j) c.loop-j.lowest a.k c.loop-j.j
+    (bound_end (asked (record_of c.args.t.now) kind q a.radius) a.s (few (goal.at.returns c).At-loop-j) c.loop-j.lowest
+    a.k c.loop-j.j
     (omega (arith, c.requires.walkable.2)))
     ∙ c.loop-j.invariant.2 kind q h

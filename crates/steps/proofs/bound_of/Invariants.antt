@@ -10,7 +10,8 @@ abbrev pub invariant-loop-j : goal.invariant-loop-j
 invariant-loop-j l = (l.k < l.j) × (l.j ≤ l.n)
     × ((kind : ℕ) (q : List ℕ)
     → Compared (record_of l.t) kind q l.s l.n l.ds
-    → bound_on (asked (record_of l.t) kind q l.radius) l.s l.k l.lowest l.j ≡ child_bound (asked (record_of l.t) kind q l.radius) l.s l.k l.bound)
+    → bound_on (asked (record_of l.t) kind q l.radius) l.s l.k l.lowest l.j ≡ child_bound
+    (asked (record_of l.t) kind q l.radius) l.s l.k l.bound)
 
 abbrev pub decreases-loop-j : goal.decreases-loop-j
 decreases-loop-j l = l.n - l.j

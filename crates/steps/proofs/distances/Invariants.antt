@@ -7,7 +7,8 @@ use Rattle.steps.specs.Loop.Children.{Compared}
 use Rattle.steps.proofs.distances.Given as goal
 
 abbrev pub invariant-loop-k : goal.invariant-loop-k
-invariant-loop-k l = (l.k ≤ l.n) × (length l.ds ≡ most_children) × Compared (record_of l.t) l.kind l.q.readings l.s l.k l.ds
+invariant-loop-k l =
+    (l.k ≤ l.n) × (length l.ds ≡ most_children) × Compared (record_of l.t) l.kind l.q.readings l.s l.k l.ds
 
 abbrev pub decreases-loop-k : goal.decreases-loop-k
 decreases-loop-k l = l.n - l.k

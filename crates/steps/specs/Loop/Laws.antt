@@ -1,9 +1,11 @@
 -- Laws of the children as the walk's loops meet them: one for each place where a loop or a branch goes on. Assumes
 -- nothing.
 use Prim.Native.Nat.{ℕ, zero, suc, ◌+◌, ◌-◌, ◌*◌, ◌≤◌, ◌<◌, min}
-use Rattle.std.specs.Prelude.{◌≡◌, Bool, true, false, ◌&&◌, List, [], ◌∷◌, ◌++◌, leb, ltb, length, get_or, drop, set, replicate}
+use Rattle.std.specs.Prelude.{◌≡◌, Bool, true, false, ◌&&◌, List, [], ◌∷◌, ◌++◌, leb, ltb, length, get_or, drop, set}
+use Rattle.std.specs.Prelude.{replicate}
 use Rattle.std.proofs.Math.Path.{refl}
-use Rattle.std.proofs.Common.{sym, ap, ◌∙◌, add-one, below_more, le-leb, lt-ltb, le-ltb, drop_of_length-le, get_or-set_same, get_or-set_other, get_or-take, length-take-le, drop-cons}
+use Rattle.std.proofs.Common.{sym, ap, ◌∙◌, add-one, below_more, le-leb, lt-ltb, le-ltb, drop_of_length-le}
+use Rattle.std.proofs.Common.{get_or-set_same, get_or-set_other, get_or-take, length-take-le, drop-cons}
 use native.Mathlib.Omega.{arith}
 use Rattle.std.proofs.Math.Decide.{ℕ_discrete}
 use Rattle.std.proofs.lemmas.Bool.{lt-leb}
@@ -101,7 +103,8 @@ module _ (Q : Query) where
   enters_at a t = is_entered (Q.records a) (away_in Q a) Q.radius t
 
   visit_step :
-      (left a t : ℕ) → (left ≡ 0 → ⊥) → entered_from Q left a t ≡ keep (enters_at a t) (a ∷ rest_from Q (left - 1) a t 0)
+      (left a t : ℕ) → (left ≡ 0 → ⊥)
+      → entered_from Q left a t ≡ keep (enters_at a t) (a ∷ rest_from Q (left - 1) a t 0)
   unfolding visit_from enters smallest_to
   visit_step zero a t h = absurd (h refl)
   visit_step (suc left) a t h = let e : suc left - 1 ≡ left = omega arith in rw e

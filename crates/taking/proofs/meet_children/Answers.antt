@@ -20,21 +20,42 @@ few c = let p = c.requires.walkable in p.0.few c.args.s p.1
 child_stands : (c : After-child_of-c) → Stands c.args.t.now c.child_of-c.result
 child_stands c = let p = c.requires.walkable in
     subst (Stands c.args.t.now) (sym c.child_of-c.ensures)
-    (p.0.stand c.args.s c.loop-j.j p.1 (counted (record { before = c.before.before; type_inv = record { t = c.type_inv.t } })))
+    (p.0.stand c.args.s c.loop-j.j p.1 (counted (record {
+      before = c.before.before;
+      type_inv =
+          record { t = c.type_inv.t };
+    })))
 
 pub loop-j-init : goal.loop-j-init
 loop-j-init c = (search rules, search rules, c.requires.rows.0, refl)
 
 pub child_of-c-requires : goal.child_of-c-requires
-child_of-c-requires c =
-    (c.requires.walkable.1, omega (arith, counted (goal.at.child_of-c-requires c).In-loop-j, few (goal.at.child_of-c-requires c).At-loop-j))
+child_of-c-requires c = (
+  c.requires.walkable.1,
+  omega (
+    arith,
+    counted (goal.at.child_of-c-requires c).In-loop-j,
+    few (goal.at.child_of-c-requires c).At-loop-j,
+  ),
+)
 
 pub away_from-away-requires : goal.away_from-away-requires
 away_from-away-requires c = child_stands (goal.at.away_from-away-requires c).After-child_of-c
 
 pub meet-f-requires : goal.meet-f-requires
 meet-f-requires c =
-    let room = c.requires.rows.1 in record { stands = (child_stands (goal.at.meet-f-requires c).After-child_of-c, c.away_from-away.ensures.1, c.requires.walkable.2); rows = (c.loop-j.invariant.2, omega (arith, room, c.loop-j.invariant.1, counted (goal.at.meet-f-requires c).In-loop-j)) }
+    let room = c.requires.rows.1 in
+    record {
+      stands = (
+        child_stands (goal.at.meet-f-requires c).After-child_of-c,
+        c.away_from-away.ensures.1,
+        c.requires.walkable.2,
+      );
+      rows = (
+        c.loop-j.invariant.2,
+        omega (arith, room, c.loop-j.invariant.1, counted (goal.at.meet-f-requires c).In-loop-j),
+      );
+    }
 
 pub loop-j-preserved : goal.loop-j-preserved
 loop-j-preserved c =

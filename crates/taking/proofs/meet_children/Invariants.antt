@@ -10,7 +10,8 @@ use Rattle.taking.proofs.meet_children.Given as goal
 abbrev pub invariant-loop-j : goal.invariant-loop-j
 invariant-loop-j l = (l.j ≤ l.n) × (l.f.count ≡ l.initial.f.count + l.j) × Rows l.k l.waits l.held l.f
     × (meet_from (record_of l.t) l.kind l.q.readings l.k l.s l.p l.near l.j (front_of l.waits l.held l.f)
-    ≡ meet_children (record_of l.t) l.kind l.q.readings l.k l.s l.p (front_of l.initial.waits l.initial.held l.initial.f))
+    ≡ meet_children (record_of l.t) l.kind l.q.readings l.k l.s l.p
+    (front_of l.initial.waits l.initial.held l.initial.f))
 
 abbrev pub decreases-loop-j : goal.decreases-loop-j
 decreases-loop-j l = l.n - l.j

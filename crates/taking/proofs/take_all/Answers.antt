@@ -11,7 +11,8 @@ use Rattle.steps.specs.Loop.Laws.{count_slots}
 use Rattle.waiting.specs.Key.{first_in, slot_in}
 use Rattle.waiting.specs.Front.{State, exceeds, finish}
 use Rattle.waiting.specs.Rows.{front_of, Known}
-use Rattle.waiting.specs.Going.{finish_end, finish_none, finish_over, finish_taken, finish_counts, taken_counted, first_waits, rows_rest}
+use Rattle.waiting.specs.Going.{finish_end, finish_none, finish_over, finish_taken, finish_counts, taken_counted}
+use Rattle.waiting.specs.Going.{first_waits, rows_rest}
 use Rattle.waiting.specs.Known.{Tells, children_known}
 use Rattle.taking.proofs.take_all.Goals.{At-loop-left, Else-exceeds, Else-f-eq0}
 use Rattle.taking.proofs.take_all.Goals as goal
@@ -29,7 +30,8 @@ counted : (c : At-loop-left) → c.loop-left.f.count ≤ most_records
 counted c = let a = c.args in
     omega (
       arith,
-      finish_counts (record_of c.args.t.now) a.kind a.q.readings a.k c.loop-left.left (front_of c.loop-left.waits c.loop-left.held c.loop-left.f),
+      finish_counts (record_of c.args.t.now) a.kind a.q.readings a.k c.loop-left.left
+          (front_of c.loop-left.waits c.loop-left.held c.loop-left.f),
       ap (λ (z : State). z.count) c.loop-left.invariant.2,
       c.requires.rows.2,
     )
@@ -38,12 +40,30 @@ some : (c : Else-f-eq0) → 0 < c.loop-left.f.waits
 some c = omega (arith, c.if-f-eq0.false)
 
 within : (c : Else-f-eq0) → c.loop-left.f.waits ≤ most_records
-within c = omega (arith, c.loop-left.invariant.0.counted, counted (record { before = c.before.before.before.before; type_inv = record { t = c.type_inv.t } }))
+within c =
+    omega (
+      arith,
+      c.loop-left.invariant.0.counted,
+      counted (record {
+        before = c.before.before.before.before;
+        type_inv =
+            record { t = c.type_inv.t };
+      }),
+    )
 
-waits_are : (c : Else-f-eq0) → (front_of c.loop-left.waits c.loop-left.held c.loop-left.f).waits ≡ (get_or c.loop-left.waits (c.loop-left.f.waits - 1) 0) ∷ (falling (c.loop-left.f.waits - 1) c.loop-left.waits)
-waits_are c = first_waits c.loop-left.invariant.0 (some c) (counted (record { before = c.before.before.before.before; type_inv = record { t = c.type_inv.t } }))
+waits_are : (c : Else-f-eq0)
+    → (front_of c.loop-left.waits c.loop-left.held c.loop-left.f).waits ≡ (get_or c.loop-left.waits
+    (c.loop-left.f.waits - 1) 0) ∷ (falling (c.loop-left.f.waits - 1) c.loop-left.waits)
+waits_are c =
+    first_waits c.loop-left.invariant.0 (some c) (counted (record {
+      before = c.before.before.before.before;
+      type_inv =
+          record { t = c.type_inv.t };
+    }))
 
-known : (c : Else-f-eq0) → Known c.args.t.now ((get_or c.loop-left.waits (c.loop-left.f.waits - 1) 0) ∷ (falling (c.loop-left.f.waits - 1) c.loop-left.waits))
+known : (c : Else-f-eq0)
+    → Known c.args.t.now
+    ((get_or c.loop-left.waits (c.loop-left.f.waits - 1) 0) ∷ (falling (c.loop-left.f.waits - 1) c.loop-left.waits))
 known c = rw (waits_are c) at c.loop-left.invariant.1
 
 -- its slot stands, and its bound is a distance
@@ -52,18 +72,29 @@ tells c = known c (get_or c.loop-left.waits (c.loop-left.f.waits - 1) 0) (first 
 
 -- its bound does not exceed the k-th distance
 near : (c : Else-exceeds) →
-    exceeds c.args.k (front_of c.loop-left.waits c.loop-left.held c.loop-left.f).held (first_in (get_or c.loop-left.waits (c.loop-left.f.waits - 1) 0)) ≡ false
+    exceeds c.args.k (front_of c.loop-left.waits c.loop-left.held c.loop-left.f).held
+    (first_in (get_or c.loop-left.waits (c.loop-left.f.waits - 1) 0)) ≡ false
 near c = sym c.exceeds.ensures ∙ c.if-exceeds.false
 
 -- its children have room
 room : (c : Else-exceeds) →
-    c.loop-left.f.count + ((record_of c.args.t.now) (slot_in (get_or c.loop-left.waits (c.loop-left.f.waits - 1) 0))).count ≤ most_records
+    c.loop-left.f.count + ((record_of c.args.t.now)
+    (slot_in (get_or c.loop-left.waits (c.loop-left.f.waits - 1) 0))).count ≤ most_records
 room c = let a = c.args in
-    let few = count_slots a.t.now (slot_in (get_or c.loop-left.waits (c.loop-left.f.waits - 1) 0)) (c.requires.walkable.0.few (slot_in (get_or c.loop-left.waits (c.loop-left.f.waits - 1) 0)) (tells (record { before = c.before.before.before.before.before; type_inv = record { t = c.type_inv.t } })).0) in
+    let few =
+    count_slots a.t.now (slot_in (get_or c.loop-left.waits (c.loop-left.f.waits - 1) 0))
+    (c.requires.walkable.0.few (slot_in (get_or c.loop-left.waits (c.loop-left.f.waits - 1) 0))
+    (tells (record { before = c.before.before.before.before.before; type_inv = record { t = c.type_inv.t } })).0) in
     omega (
       arith,
-      taken_counted (record_of c.args.t.now) a.kind a.q.readings a.k c.loop-left.left (get_or c.loop-left.waits (c.loop-left.f.waits - 1) 0) (falling (c.loop-left.f.waits - 1) c.loop-left.waits) (front_of c.loop-left.waits c.loop-left.held c.loop-left.f) few
-          (waits_are (record { before = c.before.before.before.before.before; type_inv = record { t = c.type_inv.t } })) c.loop-left-test.true (near c),
+      taken_counted (record_of c.args.t.now) a.kind a.q.readings a.k c.loop-left.left
+          (get_or c.loop-left.waits (c.loop-left.f.waits - 1) 0) (falling (c.loop-left.f.waits - 1) c.loop-left.waits)
+          (front_of c.loop-left.waits c.loop-left.held c.loop-left.f) few
+          (waits_are (record {
+            before = c.before.before.before.before.before;
+            type_inv =
+                record { t = c.type_inv.t };
+          })) c.loop-left-test.true (near c),
       ap (λ (z : State). z.count) c.loop-left.invariant.2,
       c.requires.rows.2,
     )
@@ -80,7 +111,8 @@ shape_of-held-then-f-eq0 c = (as_long (goal.at.shape_of-held-then-f-eq0 c).At-lo
 pub returns-then-f-eq0 : goal.returns-then-f-eq0
 returns-then-f-eq0 c =
     let a = c.args in (
-      sym (finish_none (record_of c.args.t.now) a.kind a.q.readings a.k c.loop-left.left (front_of c.loop-left.waits c.loop-left.held c.loop-left.f)
+      sym (finish_none (record_of c.args.t.now) a.kind a.q.readings a.k c.loop-left.left
+          (front_of c.loop-left.waits c.loop-left.held c.loop-left.f)
           (ap (λ (n : ℕ). falling n c.loop-left.waits) c.if-f-eq0.true))
           ∙ c.loop-left.invariant.2,
       c.loop-left.invariant.0,
@@ -94,7 +126,12 @@ offset_bounds-waits-at c = omega (arith, within (goal.at.offset_bounds-waits-at 
 
 pub bounds-waits-at : goal.bounds-waits-at
 bounds-waits-at c =
-    omega (arith, some (goal.at.bounds-waits-at c).Else-f-eq0, within (goal.at.bounds-waits-at c).Else-f-eq0, c.loop-left.invariant.0.room)
+    omega (
+      arith,
+      some (goal.at.bounds-waits-at c).Else-f-eq0,
+      within (goal.at.bounds-waits-at c).Else-f-eq0,
+      c.loop-left.invariant.0.room,
+    )
 
 pub exceeds-requires : goal.exceeds-requires
 exceeds-requires c =
@@ -110,7 +147,10 @@ shape_of-held-then-exceeds c = (as_long (goal.at.shape_of-held-then-exceeds c).A
 pub returns-then-exceeds : goal.returns-then-exceeds
 returns-then-exceeds c =
     let a = c.args in (
-      sym (finish_over (record_of c.args.t.now) a.kind a.q.readings a.k (get_or c.loop-left.waits (c.loop-left.f.waits - 1) 0) (falling (c.loop-left.f.waits - 1) c.loop-left.waits) (front_of c.loop-left.waits c.loop-left.held c.loop-left.f) (waits_are (goal.at.returns-then-exceeds c).Else-f-eq0)
+      sym (finish_over (record_of c.args.t.now) a.kind a.q.readings a.k
+          (get_or c.loop-left.waits (c.loop-left.f.waits - 1) 0) (falling (c.loop-left.f.waits - 1) c.loop-left.waits)
+          (front_of c.loop-left.waits c.loop-left.held c.loop-left.f)
+          (waits_are (goal.at.returns-then-exceeds c).Else-f-eq0)
           c.loop-left.left (sym c.exceeds.ensures ∙ c.if-exceeds.true))
           ∙ c.loop-left.invariant.2,
       c.loop-left.invariant.0,
@@ -118,7 +158,15 @@ returns-then-exceeds c =
 
 pub meet_children-f-requires : goal.meet_children-f-requires
 meet_children-f-requires c =
-    record { walkable = (c.requires.walkable.0, (tells (goal.at.meet_children-f-requires c).Else-f-eq0).0, (tells (goal.at.meet_children-f-requires c).Else-f-eq0).1); rows = (rows_rest c.loop-left.invariant.0, room (goal.at.meet_children-f-requires c).Else-exceeds) }
+    record {
+      walkable = (
+        c.requires.walkable.0,
+        (tells (goal.at.meet_children-f-requires c).Else-f-eq0).0,
+        (tells (goal.at.meet_children-f-requires c).Else-f-eq0).1,
+      );
+      rows =
+          (rows_rest c.loop-left.invariant.0, room (goal.at.meet_children-f-requires c).Else-exceeds);
+    }
 
 pub loop-left-preserved : goal.loop-left-preserved
 loop-left-preserved c =
@@ -127,10 +175,16 @@ loop-left-preserved c =
     let left = c.meet_children-f.ensures in (
       left.1,
       subst (λ (z : State). Known a.t.now z.waits) (sym left.0)
-          (children_known a.t.now (fits (goal.at.loop-left-preserved c).At-loop-left) p.1 a.kind a.q.readings p.2 a.k (slot_in (get_or c.loop-left.waits (c.loop-left.f.waits - 1) 0))
-          (first_in (get_or c.loop-left.waits (c.loop-left.f.waits - 1) 0)) _ p.0 (tells (goal.at.loop-left-preserved c).Else-f-eq0).0 (tells (goal.at.loop-left-preserved c).Else-f-eq0).1 (λ z i. known (goal.at.loop-left-preserved c).Else-f-eq0 z (later i))),
+          (children_known a.t.now (fits (goal.at.loop-left-preserved c).At-loop-left) p.1 a.kind a.q.readings p.2 a.k
+          (slot_in (get_or c.loop-left.waits (c.loop-left.f.waits - 1) 0))
+          (first_in (get_or c.loop-left.waits (c.loop-left.f.waits - 1) 0)) _ p.0
+          (tells (goal.at.loop-left-preserved c).Else-f-eq0).0 (tells (goal.at.loop-left-preserved c).Else-f-eq0).1
+          (λ z i. known (goal.at.loop-left-preserved c).Else-f-eq0 z (later i))),
       ap (finish (record_of c.args.t.now) a.kind a.q.readings a.k (c.loop-left.left - 1)) left.0
-          ∙ sym (finish_taken (record_of c.args.t.now) a.kind a.q.readings a.k (get_or c.loop-left.waits (c.loop-left.f.waits - 1) 0) (falling (c.loop-left.f.waits - 1) c.loop-left.waits) (front_of c.loop-left.waits c.loop-left.held c.loop-left.f) (waits_are (goal.at.loop-left-preserved c).Else-f-eq0)
+          ∙ sym (finish_taken (record_of c.args.t.now) a.kind a.q.readings a.k
+          (get_or c.loop-left.waits (c.loop-left.f.waits - 1) 0) (falling (c.loop-left.f.waits - 1) c.loop-left.waits)
+          (front_of c.loop-left.waits c.loop-left.held c.loop-left.f)
+          (waits_are (goal.at.loop-left-preserved c).Else-f-eq0)
           c.loop-left.left c.loop-left-test.true (near (goal.at.loop-left-preserved c).Else-exceeds))
           ∙ c.loop-left.invariant.2,
     )
@@ -144,7 +198,8 @@ shape_of-held c = (as_long (goal.at.shape_of-held c).At-loop-left).1
 pub returns : goal.returns
 returns c =
     let a = c.args in (
-      sym (finish_end (record_of c.args.t.now) a.kind a.q.readings a.k c.loop-left.left (front_of c.loop-left.waits c.loop-left.held c.loop-left.f) (omega arith))
+      sym (finish_end (record_of c.args.t.now) a.kind a.q.readings a.k c.loop-left.left
+          (front_of c.loop-left.waits c.loop-left.held c.loop-left.f) (omega arith))
           ∙ c.loop-left.invariant.2,
       c.loop-left.invariant.0,
     )

@@ -130,5 +130,6 @@ module _ {Sig : Type 0} {d : Sig → Sig → ℕ} {v : View Sig} (q : Sig) (k : 
       (going_first d q wf k, bounded_first q laws wf ok k) t in
       sym (ended z.0 us z.1.0 z.1.1 z.2)
 
-  pub held_nearest : held d v q k (compared v root (taken d v q k root n)) ≡ take k (nearest_first d v q (used_slots v n))
+  pub held_nearest : held d v q k (compared v root (taken d v q k root n)) ≡ take k
+      (nearest_first d v q (used_slots v n))
   held_nearest = takes_nearest (taken d v q k root n) (taken_obeys d q k wf)

@@ -47,7 +47,8 @@ module _ {Sig : Type 0} (d : Sig → Sig → ℕ) (v : View Sig) (q : Sig) (r : 
   module _ {n root : ℕ} (wf : Formed v n root) (a : ℕ) (u : Used v a) where
     pub visit_fuel : (f t : ℕ) → used_count v n ≤ f → visit d v q r f a t ≡ walk d v q r n a t
     visit_fuel f t h =
-        visit_enough f (used_count v n) a t (used_shallow wf f a u h) (used_shallow wf (used_count v n) a u (omega arith))
+        visit_enough f (used_count v n) a t (used_shallow wf f a u h)
+        (used_shallow wf (used_count v n) a u (omega arith))
 
     -- "Visiting a with bound t", steps 1 and 3: "each child is visited by the same walk"
     pub walk_is : (t : ℕ)

@@ -78,7 +78,8 @@ module _ {Sig : Type 0} (d : Sig → Sig → ℕ) (v : View Sig) (q : Sig) (r : 
   unfolding bound_from bound
   bound_from_is t b [] = refl
   bound_from_is t b (c ∷ cs) =
-      bound_from_is (least (ltb (away d v q c + 2 * r) (away d v q b)) (v.timestamp c) t) b cs ∙ bound_least _ (v.timestamp c) t b cs
+      bound_from_is (least (ltb (away d v q c + 2 * r) (away d v q b)) (v.timestamp c) t) b cs
+      ∙ bound_least _ (v.timestamp c) t b cs
 
   -- ---- the turn
 

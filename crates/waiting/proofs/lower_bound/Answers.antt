@@ -28,5 +28,6 @@ pub returns : goal.returns
 returns c =
     let r = record_of c.args.t.now c.args.s in (
       worked_out (goal.at.returns c).After-larger-2,
-      rw (worked_out (goal.at.returns c).After-larger-2) (lower_fits r c.args.p c.args.near c.args.away c.requires.1 c.requires.2),
+      rw (worked_out (goal.at.returns c).After-larger-2) (lower_fits r c.args.p c.args.near c.args.away c.requires.1
+          c.requires.2),
     )

@@ -16,9 +16,13 @@ use Rattle.waiting.proofs.wait.Goals as goal
 -- the lower bound, as it was worked out
 bound_is : (c : After-lower_bound-lower) →
     let a = c.args in
-    waits_with (record_of c.args.t.now) a.k a.s c.lower_bound-lower.result (take c.args.f.held c.args.held.now) (falling c.args.f.waits c.args.waits.now)
-    ≡ waits_with (record_of c.args.t.now) a.k a.s (lower_from ((record_of c.args.t.now) a.s) a.p a.near a.away) (take c.args.f.held c.args.held.now) (falling c.args.f.waits c.args.waits.now)
-bound_is c = ap (λ (b : ℕ). waits_with (record_of c.args.t.now) c.args.k c.args.s b (take c.args.f.held c.args.held.now) (falling c.args.f.waits c.args.waits.now)) c.lower_bound-lower.ensures.0
+    waits_with (record_of c.args.t.now) a.k a.s c.lower_bound-lower.result (take c.args.f.held c.args.held.now)
+    (falling c.args.f.waits c.args.waits.now)
+    ≡ waits_with (record_of c.args.t.now) a.k a.s (lower_from ((record_of c.args.t.now) a.s) a.p a.near a.away)
+    (take c.args.f.held c.args.held.now) (falling c.args.f.waits c.args.waits.now)
+bound_is c =
+    ap (λ (b : ℕ). waits_with (record_of c.args.t.now) c.args.k c.args.s b (take c.args.f.held c.args.held.now)
+    (falling c.args.f.waits c.args.waits.now)) c.lower_bound-lower.ensures.0
 
 pub returns-then-children_of-eq0 : goal.returns-then-children_of-eq0
 returns-then-children_of-eq0 c = (
@@ -57,7 +61,8 @@ returns c =
     let rows = c.requires.rows.0 in (
       climbed_front c.args.waits.now _ c.args.f.waits _ (omega (arith, rows.counted, rows.room))
           c.climb.ensures
-          ∙ ap (λ (y : ℕ). put_among (key c.lower_bound-lower.result y c.args.s) (falling c.args.f.waits c.args.waits.now)) c.timestamp_of.ensures
+          ∙ ap (λ (y : ℕ). put_among (key c.lower_bound-lower.result y c.args.s)
+          (falling c.args.f.waits c.args.waits.now)) c.timestamp_of.ensures
           ∙ waits_more
           (record_of c.args.t.now)
           c.args.k

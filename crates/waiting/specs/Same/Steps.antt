@@ -73,7 +73,8 @@ module _ {n : ℕ} {R : ℕ → Record} {root : ℕ} {q : List ℕ} (given : Giv
   waits_are : (w : Waiting) (ws : List Waiting) (cs : List ℕ) → Used (R w.slot) → AllWait R ws → AllUsed R cs
       → waits_with R k w.slot w.lower (map (key_held R kind q k) (held_of R kind q k cs))
       (map (key_waiting R kind q k) ws)
-      ≡ map (key_waiting R kind q k) (cond (is_idle (apart kind) (view_of R) q k cs w) ws (put_by (sooner (view_of R)) w ws))
+      ≡ map (key_waiting R kind q k) (cond (is_idle (apart kind) (view_of R) q k cs w) ws
+      (put_by (sooner (view_of R)) w ws))
   unfolding waits_with
   waits_are w ws cs u wait all = rw (idle_is w cs u all) (go (is_idle (apart kind) (view_of R) q k cs w))
     where

@@ -1,6 +1,7 @@
 -- `walk::walk` meets its contract. Up to the loop this record is entered and noted, and all its children are left; in a
 -- turn a child is too far, or not covered, or walked from with its bound. Assumes nothing.
-use Rattle.std.proofs.Common.{ℕ, ◌+◌, ◌-◌, ◌*◌, ◌≤◌, ◌<◌, ◌≡◌, refl, Bool, List, ◌++◌, length, get_or, sym, ap, subst, ◌∙◌, arith, rules}
+use Rattle.std.proofs.Common.{ℕ, ◌+◌, ◌-◌, ◌*◌, ◌≤◌, ◌<◌, ◌≡◌, refl, Bool, List, ◌++◌, length, get_or, sym, ap, subst}
+use Rattle.std.proofs.Common.{◌∙◌, arith, rules}
 use Rattle.std.proofs.Math.Seq.{sets, length-sets}
 use Rattle.refusals.specs.Limits.{most_children}
 use Rattle.distance.specs.Laws.{farthest}

@@ -1,7 +1,8 @@
 -- `admission::keys::by_order` meets its contract. The loop's invariant: the first s places hold the keys of the
 -- records before s. Assumes nothing.
 use Rattle.std.specs.Prelude.{ℕ, ◌-◌, ◌≡◌, refl, get_or, set}
-use Rattle.std.proofs.Common.{sym, ◌∙◌, length-set, get_or-set_same, get_or-set_other, length-take-le, below_more, arith}
+use Rattle.std.proofs.Common.{sym, ◌∙◌, length-set, get_or-set_same, get_or-set_other, length-take-le, below_more}
+use Rattle.std.proofs.Common.{arith}
 use Rattle.table.specs.Record.{record_of}
 use Rattle.table.specs.Stands.{stands_below}
 use Rattle.admission.specs.Key.{key_of, gathered}

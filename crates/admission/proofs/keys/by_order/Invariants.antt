@@ -7,7 +7,10 @@ use Rattle.admission.specs.Key.{key_of}
 use Rattle.admission.proofs.keys.by_order.Given as goal
 
 abbrev pub invariant-loop-s : goal.invariant-loop-s
-invariant-loop-s l = (l.s ≤ l.n) × (length l.keys ≡ most_records) × ((k : ℕ) → k < l.s → get_or l.keys k 0 ≡ key_of l.key (record_of l.t k))
+invariant-loop-s l =
+    (l.s ≤ l.n)
+    × (length l.keys ≡ most_records)
+    × ((k : ℕ) → k < l.s → get_or l.keys k 0 ≡ key_of l.key (record_of l.t k))
 
 abbrev pub decreases-loop-s : goal.decreases-loop-s
 decreases-loop-s l = l.n - l.s

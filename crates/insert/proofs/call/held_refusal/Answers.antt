@@ -19,12 +19,23 @@ pub returns-then-twice : goal.returns-then-twice
 returns-then-twice c = rw (same (goal.at.returns-then-twice c).Else-other, lt-ltb _ _ c.if-twice.true)
 
 pub returns-then-full : goal.returns-then-full
-returns-then-full c = rw (same (goal.at.returns-then-full c).Else-other, le-ltb _ _ c.if-twice.false, le-leb _ _ c.if-full.true)
+returns-then-full c =
+    rw (same (goal.at.returns-then-full c).Else-other, le-ltb _ _ c.if-twice.false, le-leb _ _ c.if-full.true)
 
 pub returns-then-spent : goal.returns-then-spent
 returns-then-spent c =
-    rw (same (goal.at.returns-then-spent c).Else-other, le-ltb _ _ c.if-twice.false, lt-leb _ _ c.if-full.false, le-leb _ _ c.if-spent.true)
+    rw (
+      same (goal.at.returns-then-spent c).Else-other,
+      le-ltb _ _ c.if-twice.false,
+      lt-leb _ _ c.if-full.false,
+      le-leb _ _ c.if-spent.true,
+    )
 
 pub returns-else-spent : goal.returns-else-spent
 returns-else-spent c =
-    rw (same (goal.at.returns-else-spent c).Else-other, le-ltb _ _ c.if-twice.false, lt-leb _ _ c.if-full.false, lt-leb _ _ c.if-spent.false)
+    rw (
+      same (goal.at.returns-else-spent c).Else-other,
+      le-ltb _ _ c.if-twice.false,
+      lt-leb _ _ c.if-full.false,
+      lt-leb _ _ c.if-spent.false,
+    )

@@ -21,7 +21,8 @@ right c = sym c.right_arguments.ensures ∙ c.if-not-right_arguments.false
 pub returns-then-not-right_arguments : goal.returns-then-not-right_arguments
 returns-then-not-right_arguments c =
     let a = c.args in
-    own_argument a.t.now a.card a.kind a.arity a.signature.now (wrong (goal.at.returns-then-not-right_arguments c).Then-not-right_arguments)
+    own_argument a.t.now a.card a.kind a.arity a.signature.now
+    (wrong (goal.at.returns-then-not-right_arguments c).Then-not-right_arguments)
 
 pub slot_of_card-requires : goal.slot_of_card-requires
 slot_of_card-requires c = stand_all c.args.t.now

@@ -33,19 +33,27 @@ returns-then-list-used c =
     let a = c.args in
     let x = c.refused-then-list-used.ensures in
     rw (x.0, x.1)
-    (cards_short a.t.now a.list.now (admitted (goal.at.returns-then-list-used c).Else-lent-ne-DONE) (omega (arith, c.if-list-used.true, (answers (goal.at.returns-then-list-used c).Else-lent-ne-DONE).used)))
+    (cards_short a.t.now a.list.now (admitted (goal.at.returns-then-list-used c).Else-lent-ne-DONE)
+    (omega (arith, c.if-list-used.true, (answers (goal.at.returns-then-list-used c).Else-lent-ne-DONE).used)))
 
 pub list_cards-requires : goal.list_cards-requires
-list_cards-requires c = ((answers (goal.at.list_cards-requires c).Else-lent-ne-DONE).used, omega (arith, c.if-list-used.false))
+list_cards-requires c =
+    ((answers (goal.at.list_cards-requires c).Else-lent-ne-DONE).used, omega (arith, c.if-list-used.false))
 
 pub overflow_cast-result : goal.overflow_cast-result
 overflow_cast-result c =
     let l = c.args.t.now in
     let few = right_most l (admitted_readable l (admitted (goal.at.overflow_cast-result c).Else-lent-ne-DONE)).size in
-    omega (arith, (answers (goal.at.overflow_cast-result c).Else-lent-ne-DONE).used, used_in_most (records_in l) (record_of l), few)
+    omega (
+      arith,
+      (answers (goal.at.overflow_cast-result c).Else-lent-ne-DONE).used,
+      used_in_most (records_in l) (record_of l),
+      few,
+    )
 
 pub returns : goal.returns
 returns c =
     let a = c.args in
-    cards_done a.t.now a.list.now (admitted (goal.at.returns c).Else-lent-ne-DONE) _ (answers (goal.at.returns c).Else-lent-ne-DONE).used (omega (arith, c.if-list-used.false)) _
+    cards_done a.t.now a.list.now (admitted (goal.at.returns c).Else-lent-ne-DONE) _
+    (answers (goal.at.returns c).Else-lent-ne-DONE).used (omega (arith, c.if-list-used.false)) _
     c.list_cards.ensures

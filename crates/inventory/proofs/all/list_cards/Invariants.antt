@@ -7,7 +7,9 @@ use Rattle.inventory.specs.Listing.{CardsLaid}
 use Rattle.inventory.proofs.all.list_cards.Given as goal
 
 abbrev pub invariant-loop-found : goal.invariant-loop-found
-invariant-loop-found l = (l.s ≤ records_in l.t) × (length l.list ≡ length l.initial.list) × CardsLaid (record_of l.t) l.used l.initial.list l.s l.found l.list
+invariant-loop-found l =
+    (l.s ≤ records_in l.t) × (length l.list ≡ length l.initial.list) × CardsLaid (record_of l.t) l.used l.initial.list
+    l.s l.found l.list
 
 abbrev pub decreases-loop-found : goal.decreases-loop-found
 decreases-loop-found l = records_in l.t - l.s

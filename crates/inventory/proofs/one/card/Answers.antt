@@ -27,7 +27,8 @@ pub returns-then-card-eq0 : goal.returns-then-card-eq0
 returns-then-card-eq0 c =
     let a = c.args in
     let x = c.refused-then-card-eq0.ensures in
-    rw (x.0, x.1) (card_none a.t.now a.card a.row.now (admitted (goal.at.returns-then-card-eq0 c).Else-refusal-ne-DONE) c.if-card-eq0.true)
+    rw (x.0, x.1) (card_none a.t.now a.card a.row.now (admitted (goal.at.returns-then-card-eq0 c).Else-refusal-ne-DONE)
+    c.if-card-eq0.true)
 
 pub slot_of_card-s-requires : goal.slot_of_card-s-requires
 slot_of_card-s-requires c = stand_all c.args.t.now
@@ -38,7 +39,8 @@ returns-then-n-s c =
     let x = c.refused-then-n-s.ensures in
     let absent : records_in a.t.now ≤ slot_of_card (records_in a.t.now) (record_of a.t.now) a.card =
     omega (arith, c.if-n-s.true, c.slot_of_card-s.ensures) in
-    rw (x.0, x.1) (card_absent a.t.now a.card a.row.now (admitted (goal.at.returns-then-n-s c).Else-refusal-ne-DONE) c.if-card-eq0.false absent)
+    rw (x.0, x.1) (card_absent a.t.now a.card a.row.now (admitted (goal.at.returns-then-n-s c).Else-refusal-ne-DONE)
+    c.if-card-eq0.false absent)
 
 pub tell-requires : goal.tell-requires
 tell-requires c =
@@ -52,4 +54,5 @@ returns c =
     omega (arith, c.if-n-s.false, c.slot_of_card-s.ensures) in
     c.tell.ensures
     ∙ ap (λ (s : ℕ). telling_at (record_of a.t.now s) a.row.now) c.slot_of_card-s.ensures
-    ∙ card_present a.t.now a.card a.row.now (admitted (goal.at.returns c).Else-refusal-ne-DONE) c.if-card-eq0.false inside
+    ∙ card_present a.t.now a.card a.row.now (admitted (goal.at.returns c).Else-refusal-ne-DONE)
+    c.if-card-eq0.false inside

@@ -45,19 +45,26 @@ returns-then-get_u64-ne0 c =
       passes = λ e.
           absurd
           (c.if-get_u64-ne0.true
-          (c.get_u64.ensures ∙ free_zero_words a.t.now a.s (bytes (goal.at.returns-then-get_u64-ne0 c).At-loop-k) e c.loop-k.k (omega arith)));
+          (c.get_u64.ensures
+          ∙ free_zero_words a.t.now a.s (bytes (goal.at.returns-then-get_u64-ne0 c).At-loop-k) e c.loop-k.k
+          (omega arith)));
     }
 
 pub loop-k-preserved : goal.loop-k-preserved
 loop-k-preserved c =
     let l = c.loop-k in
-    let zero_word = sym c.get_u64.ensures ∙ c.if-get_u64-ne0.false in
-    (omega arith, below_more (λ (k : ℕ). word (goal.at.loop-k-preserved c).After-get_u64 k ≡ 0) l.k l.invariant.1 zero_word)
+    let zero_word = sym c.get_u64.ensures ∙ c.if-get_u64-ne0.false in (
+      omega arith,
+      below_more (λ (k : ℕ). word (goal.at.loop-k-preserved c).After-get_u64 k ≡ 0) l.k l.invariant.1
+          zero_word,
+    )
 
 pub returns : goal.returns
 returns c =
     let a = c.args in
     record {
-      shows = λ e. zero_words_free a.t.now a.s (bytes (goal.at.returns c).At-loop-k) (λ k p. c.loop-k.invariant.1 k (omega arith));
+      shows =
+          λ e. zero_words_free a.t.now a.s (bytes (goal.at.returns c).At-loop-k)
+          (λ k p. c.loop-k.invariant.1 k (omega arith));
       passes = λ e. refl;
     }

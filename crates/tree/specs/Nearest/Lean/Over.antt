@@ -51,7 +51,8 @@ module _ {Sig : Type 0} (d : Sig → Sig → ℕ) (v : View Sig) (q : Sig) where
   falls x (y ∷ l) (suc i) s h = go (nearer d v q y x) (falls x l i s.1 (omega arith))
     where
       go : (b : Bool) → away d v q (get_or (put_by (nearer d v q) x l) i 0) ≤ away d v q (get_or l i 0)
-          → away d v q (get_or (cond b (y ∷ put_by (nearer d v q) x l) (x ∷ y ∷ l)) (suc i) 0) ≤ away d v q (get_or l i 0)
+          → away d v q (get_or (cond b (y ∷ put_by (nearer d v q) x l) (x ∷ y ∷ l)) (suc i) 0) ≤ away d v q
+          (get_or l i 0)
       go true rest = rest
       go false rest = rises y l i s (omega arith)
 

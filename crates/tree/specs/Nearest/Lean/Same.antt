@@ -164,7 +164,8 @@ module _ {Sig : Type 0} (d : Sig → Sig → ℕ) {v : View Sig} (q : Sig) (k : 
       let most = used_at_most wf (taken d v q k root n) (taken_distinct d q k wf) (taken_used d q k wf) in
       follows d q k wf some (taken_obeys d q k wf) f _ _ (omega (arith, most, enough)) start start.far.leaner
 
-  pub lean_met : (x : ℕ) → x ∈ (goes_on d v q k f (begins d v q k root)).met ↔ x ∈ compared v root (taken d v q k root n)
+  pub lean_met : (x : ℕ)
+      → x ∈ (goes_on d v q k f (begins d v q k root)).met ↔ x ∈ compared v root (taken d v q k root n)
   lean_met x = (lean_same.from x, lean_same.to x)
 
   pub lean_distinct : Distinct (goes_on d v q k f (begins d v q k root)).met
