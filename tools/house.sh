@@ -132,13 +132,16 @@ edits_named() {
     fi
 }
 
-# Names that docs/PROMISES.md says stand in a file, as `a`, `b` (crate/File), and that do not.
+# Names that docs/PROMISES.md says stand in a file of a crate's specs/ or proofs/, as `a`, `b` (crate/File), and that do
+# not.
 lost_names() {
     perl -0777 -ne '
         while (/((?:`[^`]+`, )*`[^`]+`) \(([a-z]+)\/([A-Z][A-Za-z\/]*)\)/g) {
-            my ($names, $file) = ($1, "crates/$2/specs/$3.antt");
-            my $text = "";
-            if (open my $f, "<", $file) { local $/; $text = <$f> } else { print "$file is not there\n" }
+            my ($names, $file, $text) = ($1, "$2/$3", "");
+            for my $at ("crates/$2/specs/$3.antt", "crates/$2/proofs/$3.antt") {
+                if (open my $f, "<", $at) { local $/; $text .= <$f> }
+            }
+            print "$file is not there\n" if $text eq "";
             for ($names =~ /`([A-Za-z][\w-]*)`/g) {
                 print "$_ is not in $file\n" unless $text =~ /(?<![\w-])\Q$_\E(?![\w-])/;
             }

@@ -23,5 +23,5 @@ fn main() {
 
 /// Linked in place of a library that is not there. The compiler looks for it only when it links, does not find it, and
 /// says so by this name: what to do stands in it. A colon would end the name.
-const MISSING: &str = "plotvuga (run 'bash tools/library.sh plotvuga' in the repository, or set PLOTVUGA_LIB_DIR to the \
-                       folder that holds libplotvuga.a)";
+const MISSING: &str = "plotvuga (run 'bash tools/library.sh plotvuga' in the repository, or set PLOTVUGA_LIB_DIR to \
+                       the folder that holds libplotvuga.a)";

@@ -1,4 +1,5 @@
--- The call's refusals: which number is given where, and what it means that there is no refusal. By the algebra of tests in their order. Assumes nothing.
+-- The call's refusals: which number is given where, and what it means that there is no refusal. By the algebra of
+-- tests in their order. Assumes nothing.
 use Rattle.std.specs.Prelude.{ℕ, ◌≤◌, ◌<◌, ◌≡◌, Bool, true, false, ◌||◌, not, List, [], ◌∷◌, ◌++◌, leb, length}
 use Rattle.std.proofs.Math.Path.{refl, sym}
 use Rattle.std.proofs.Common.{ap, subst, ◌∙◌, arith}

@@ -68,7 +68,8 @@ use Rattle.listing.specs.Rows.{
   check_reradius,
 }
 use Rattle.listing.specs.OnRows.{cleared_rows, report_on_lem, reports_on_lem, run_on_lem, stored_after_lem}
-use Rattle.listing.specs.Edges.{reading, put, brings, look, six_cards, paper_listing, rest, six_rows, printed, left_stored, six, Edges}
+use Rattle.listing.specs.Edges.{reading, put, brings, look, six_cards, paper_listing, rest, six_rows, printed}
+use Rattle.listing.specs.Edges.{left_stored, six, Edges}
 use Rattle.listing.proofs.SixRows.{on_rows}
 
 -- ---- it is a history that the main theorem speaks of

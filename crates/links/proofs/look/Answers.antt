@@ -32,11 +32,7 @@ used_too c root = seen_used c.args.n (record_of c.args.t.now) c.args.s c.args.se
     c.timestamp_of-timestamp.result
     root
     c.requires.stand_to.2
-    (in_use (record {
-      before = c.before.before.before.before.before.before.before.before.before.before;
-      type_inv =
-          record { t = c.type_inv.t };
-    }))
+    (omega (arith, c.card_of.ensures, c.if-card_of-eq0.false))
     c.if-seen-kind.false
     (sym c.record_ok.ensures ∙ c.if-not-record_ok.false)
     c.kind_of-kind.ensures

@@ -23,21 +23,16 @@ given c = let bytes : Bytes c.args.t.now = λ i. omega (arith, c.type_inv.t i) i
     readable_given c.requires.readable.0 bytes (some c) c.requires.readable.1
 
 -- the first pairs of the row are the nearest ones
-told : (c : After-pairs_of-pairs) →
+told : (c : After-pairs_of-pairs)
+    (some : 1 ≤ used_in (records_in c.args.t.now) (record_of c.args.t.now))
+    (given : Given (records_in c.args.t.now) (record_of c.args.t.now)
+    (root_of (records_in c.args.t.now) (record_of c.args.t.now)) c.args.q.readings) →
     let a = c.args in
     take c.search_from-f.result.held c.pairs_of-pairs.result
     ≡ nearest_pairs (records_in a.t.now) (record_of a.t.now) a.kind a.q.readings a.k
-told c = c.pairs_of-pairs.ensures.0
+told c some given = c.pairs_of-pairs.ensures.0
     ∙ ap (map pair_in) c.search_from-f.ensures.0
-    ∙ pairs_told c.args.kind c.args.k (some (record {
-      before = c.before.before.before.before.before.before;
-      type_inv =
-          record { t = c.type_inv.t };
-    })) (given (record {
-      before = c.before.before.before.before.before.before;
-      type_inv =
-          record { t = c.type_inv.t };
-    }))
+    ∙ pairs_told c.args.kind c.args.k some given
 
 pub returns-then-used-eq0 : goal.returns-then-used-eq0
 returns-then-used-eq0 c =
@@ -51,9 +46,10 @@ returns-then-used-eq0 c =
 pub returns : goal.returns
 returns c =
     let a = c.args in
+    let h = (goal.at.returns c).Else-used-eq0 in
     let f = c.search_from-f.result in (
       listing_is a.t.now a.kind a.q.readings a.k 0 f.count f.held f.held c.pairs_of-pairs.result
-          refl c.search_from-f.ensures.1 (told (goal.at.returns c).After-pairs_of-pairs)
+          refl c.search_from-f.ensures.1 (told (goal.at.returns c).After-pairs_of-pairs (some h) (given h))
           (omega (arith, c.pairs_of-pairs.ensures.1)) refl,
       c.search_from-f.ensures.2,
     )

@@ -26,7 +26,8 @@ child_put c = let n = c.count_of-n.result in
 
 pub put_count-requires : goal.put_count-requires
 put_count-requires c =
-    stands_same c.args.t.now c.put_slot.new.t (child_put (goal.at.put_count-requires c).After-put_slot).same_length c.args.a c.requires.0
+    stands_same c.args.t.now c.put_slot.new.t (child_put (goal.at.put_count-requires c).After-put_slot).same_length
+    c.args.a c.requires.0
 
 pub returns : goal.returns
 returns c =

@@ -13,7 +13,9 @@ use Rattle.newcomer.proofs.clear_slots.Goals as goal
 
 pub loop-i-init : goal.loop-i-init
 loop-i-init c =
-    let none = ap (with_slots (record_of c.args.t.now c.args.s)) (sym (cleared_none (record_of c.args.t.now c.args.s).slots)) in
+    let none =
+    ap (with_slots (record_of c.args.t.now c.args.s))
+    (sym (cleared_none (record_of c.args.t.now c.args.s).slots)) in
     (omega arith, refl, became_by (became_none c.args.t.now c.args.s c.requires) none refl)
 
 pub put_slot-requires : goal.put_slot-requires
@@ -36,9 +38,11 @@ loop-i-preserved c =
 pub returns : goal.returns
 returns c =
     let all : c.loop-i.i ≡ most_children = omega arith in
-    let made : cleared c.loop-i.i (record_of c.args.t.now c.args.s).slots ≡ cleared most_children (record_of c.args.t.now c.args.s).slots =
+    let made : cleared c.loop-i.i (record_of c.args.t.now c.args.s).slots ≡ cleared most_children
+    (record_of c.args.t.now c.args.s).slots =
     ap (λ (i : ℕ). cleared i (record_of c.args.t.now c.args.s).slots) all in
     became_by
     c.loop-i.invariant.2
-    (ap (with_slots (record_of c.args.t.now c.args.s)) (made ∙ cleared_all (record_of c.args.t.now c.args.s).slots (slots_length c.args.t.now c.args.s)))
+    (ap (with_slots (record_of c.args.t.now c.args.s)) (made
+    ∙ cleared_all (record_of c.args.t.now c.args.s).slots (slots_length c.args.t.now c.args.s)))
     refl

@@ -10,7 +10,8 @@ use Rattle.newcomer.proofs.clear_slots.Given as goal
 abbrev pub invariant-loop-i : goal.invariant-loop-i
 invariant-loop-i l = (l.i ≤ most_children)
     × (length l.t ≡ length l.initial.t)
-    × Became l.initial.t l.s (with_slots (record_of l.initial.t l.s) (cleared l.i (record_of l.initial.t l.s).slots)) l.t
+    × Became l.initial.t l.s (with_slots (record_of l.initial.t l.s) (cleared l.i (record_of l.initial.t l.s).slots))
+    l.t
 
 abbrev pub decreases-loop-i : goal.decreases-loop-i
 decreases-loop-i l = most_children - l.i

@@ -26,11 +26,13 @@ kind_put c = let m = c.put_card.new.t in
 
 pub put_kind-requires : goal.put_kind-requires
 put_kind-requires c =
-    stands_same c.args.t.now c.put_card.new.t (card_put (goal.at.put_kind-requires c).After-put_card).same_length c.args.s c.requires.0
+    stands_same c.args.t.now c.put_card.new.t (card_put (goal.at.put_kind-requires c).After-put_card).same_length
+    c.args.s c.requires.0
 
 pub put_signature-requires : goal.put_signature-requires
 put_signature-requires c =
-    stands_same c.args.t.now c.put_kind.new.t (kind_put (goal.at.put_signature-requires c).After-put_kind).same_length c.args.s c.requires.0
+    stands_same c.args.t.now c.put_kind.new.t (kind_put (goal.at.put_signature-requires c).After-put_kind).same_length
+    c.args.s c.requires.0
 
 pub returns : goal.returns
 returns c =

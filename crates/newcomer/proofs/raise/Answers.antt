@@ -20,12 +20,14 @@ returns-then-radius_of-away c =
     let fits : c.args.away < 256 ^ 4 = omega (arith, c.ranges.away) in
     became_by
     (put_radius_lem c.args.t.now c.args.a c.requires c.args.away fits)
-    (raised_more (record_of c.args.t.now c.args.a) c.args.away (smaller (goal.at.returns-then-radius_of-away c).Then-radius_of-away))
+    (raised_more (record_of c.args.t.now c.args.a) c.args.away
+    (smaller (goal.at.returns-then-radius_of-away c).Then-radius_of-away))
     c.put_radius.ensures
 
 pub returns-else-radius_of-away : goal.returns-else-radius_of-away
 returns-else-radius_of-away c =
     became_by
     (became_none c.args.t.now c.args.a c.requires)
-    (raised_not (record_of c.args.t.now c.args.a) c.args.away (enough (goal.at.returns-else-radius_of-away c).Else-radius_of-away))
+    (raised_not (record_of c.args.t.now c.args.a) c.args.away
+    (enough (goal.at.returns-else-radius_of-away c).Else-radius_of-away))
     refl

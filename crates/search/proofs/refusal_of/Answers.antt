@@ -28,11 +28,7 @@ other : (c : After-other_kind) (l : List ℕ) →
     Admits l c.args.lent → other_kind (records_in l) (record_of l) c.args.kind ≡ c.other_kind.result
 other c l a =
     sym (c.other_kind.ensures
-    ∙ other_found_lem _ (answers (record {
-      before = c.before.before.before.before.before;
-      type_inv =
-          record { signature = c.type_inv.signature };
-    }) l a))
+    ∙ other_found_lem _ (a.answers c.if-lent-ne-DONE.false))
 
 pub returns-then-lent-ne-DONE : goal.returns-then-lent-ne-DONE
 returns-then-lent-ne-DONE c = λ l a.

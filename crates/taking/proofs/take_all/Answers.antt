@@ -77,24 +77,23 @@ near : (c : Else-exceeds) →
 near c = sym c.exceeds.ensures ∙ c.if-exceeds.false
 
 -- its children have room
-room : (c : Else-exceeds) →
+room : (c : Else-exceeds)
+    → Tells c.args.t.now (get_or c.loop-left.waits (c.loop-left.f.waits - 1) 0)
+    → (front_of c.loop-left.waits c.loop-left.held c.loop-left.f).waits
+    ≡ get_or c.loop-left.waits (c.loop-left.f.waits - 1) 0 ∷ falling (c.loop-left.f.waits - 1) c.loop-left.waits →
     c.loop-left.f.count + ((record_of c.args.t.now)
     (slot_in (get_or c.loop-left.waits (c.loop-left.f.waits - 1) 0))).count ≤ most_records
-room c = let a = c.args in
+room c told are = let a = c.args in
     let few =
     count_slots a.t.now (slot_in (get_or c.loop-left.waits (c.loop-left.f.waits - 1) 0))
     (c.requires.walkable.0.few (slot_in (get_or c.loop-left.waits (c.loop-left.f.waits - 1) 0))
-    (tells (record { before = c.before.before.before.before.before; type_inv = record { t = c.type_inv.t } })).0) in
+    told.0) in
     omega (
       arith,
       taken_counted (record_of c.args.t.now) a.kind a.q.readings a.k c.loop-left.left
           (get_or c.loop-left.waits (c.loop-left.f.waits - 1) 0) (falling (c.loop-left.f.waits - 1) c.loop-left.waits)
           (front_of c.loop-left.waits c.loop-left.held c.loop-left.f) few
-          (waits_are (record {
-            before = c.before.before.before.before.before;
-            type_inv =
-                record { t = c.type_inv.t };
-          })) c.loop-left-test.true (near c),
+          are c.loop-left-test.true (near c),
       ap (λ (z : State). z.count) c.loop-left.invariant.2,
       c.requires.rows.2,
     )
@@ -164,8 +163,12 @@ meet_children-f-requires c =
         (tells (goal.at.meet_children-f-requires c).Else-f-eq0).0,
         (tells (goal.at.meet_children-f-requires c).Else-f-eq0).1,
       );
-      rows =
-          (rows_rest c.loop-left.invariant.0, room (goal.at.meet_children-f-requires c).Else-exceeds);
+      rows = (
+        rows_rest c.loop-left.invariant.0,
+        room (goal.at.meet_children-f-requires c).Else-exceeds
+            (tells (goal.at.meet_children-f-requires c).Else-f-eq0)
+            (waits_are (goal.at.meet_children-f-requires c).Else-f-eq0),
+      );
     }
 
 pub loop-left-preserved : goal.loop-left-preserved
