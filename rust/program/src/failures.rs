@@ -1,5 +1,6 @@
 //! The program where its input or its output fails: it has to end, and to tell in one sentence on standard error which
-//! of the two it was and where it stood. A program in Rattle has no exit status of its own: the sentence is all.
+//! of the two it was and where it stood. Its exit status is 0 all the same: the sentence is all. Where nobody reads what
+//! it writes, Rattle's own start has the system's signal ignored, so that the sentence comes there too.
 
 use crate::commands;
 use model::calls::Model;
@@ -15,8 +16,6 @@ use std::time::{Duration, Instant};
 
 /// What a program that goes on or waits is given before it counts as hung.
 const PATIENCE: Duration = Duration::from_secs(10);
-/// The signal by which the system ends a program that writes where nobody reads.
-const SIGPIPE: i32 = 13;
 
 #[derive(Clone, Copy, Debug, PartialEq, Eq)]
 enum End {
@@ -51,7 +50,7 @@ pub fn all(path: &str) -> Vec<(&'static str, Option<String>)> {
         ("output to a full device", full_device(path, &listing), Run::new("", &no_line(1), ended)),
         ("a last line to a full device", full_device(path, &[1; 7]), Run::new("", &no_line(1), ended)),
         ("output closed", shell(path, "exec \"$0\" >&-", &listing), Run::new("", &no_line(1), ended)),
-        ("reader gone", reader_gone(Command::new(path), &listing), Run::new(&first, "", End::Signal(SIGPIPE))),
+        ("reader gone", reader_gone(Command::new(path), &listing), Run::new(&first, &no_line(2), ended)),
         (
             "reader gone, and the signal of that ignored",
             reader_gone(in_shell(path, "trap '' PIPE; exec \"$0\""), &listing),

@@ -7,7 +7,7 @@ use Rattle.std.proofs.Math.Path.{refl, ap}
 use Rattle.std.proofs.Common.{◌∙◌, arith, le-leb, leb-true, leb-false, ltb-true, ltb-false}
 use mathlib.Core.List.Memᴰ.{head as first}
 use mathlib.Core.List.Memᴰ.{tail as later}
-use mathlib.Core.List.{List, [], ◌∷◌, ◌++◌}
+use mathlib.Core.List.{List, [], ◌∷◌}
 use Rattle.std.proofs.lemmas.Bool.{lt-leb}
 use Rattle.distance.specs.Laws.{Distance, farthest}
 use Rattle.tree.specs.Slots.{◌∈◌, keep}
