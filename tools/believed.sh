@@ -6,6 +6,7 @@ cd "$(dirname "$0")/.."
 lost=0 sum=0 files=0
 while read -r name; do
     file=crates/${name%%/*}/specs/${name#*/}.antt
+    [ "$name" != history/Promises ] || file=crates/history/proofs/Promises.antt
     if [ -f "$file" ]; then
         n=$(grep -cvE '^ *$|^(pub )?use |^  [^ ].*,$|^}' "$file")
         printf '%5d %s\n' "$n" "$file"

@@ -5,7 +5,7 @@ use Rattle.std.proofs.Math.Path.{refl, sym}
 use Rattle.std.proofs.Common.{ap, subst, ◌∙◌, arith}
 use Rattle.std.proofs.lemmas.Bool.{false≢true}
 use borrow.Author.Tests.{ne_eqb, le-leb, lt-leb, leb-true, leb-false, not-false}
-use Rattle.places.specs.Choice.{pick, and_left, and_right}
+use Rattle.places.specs.Choice.{and_left, and_right}
 use Rattle.admission.specs.Query.{known_change}
 use Rattle.refusals.specs.Limits.{most_children, known_arity}
 use Rattle.refusals.specs.Refusal.{ARGUMENT, ABSENT, CLOCK, first_of, done}
@@ -23,9 +23,8 @@ use Rattle.judge.specs.Readable.{Readable}
 use Rattle.admission.specs.Admission.{admission_tests, table_refuses, own_first}
 use Rattle.view.specs.Shaped.{Shaped}
 use Rattle.view.specs.Readable.{readable_formed, readable_shaped}
-use Rattle.placing.specs.Changed.{changed}
 use Rattle.removal.specs.Leaving.{Held}
-use Rattle.delete.specs.Delete.{deleted, clock_would_pass, deletion_tests, refusal_of, delete_of}
+use Rattle.delete.specs.Delete.{clock_would_pass, deletion_tests, refusal_of, delete_of}
 use Rattle.delete.specs.Call.{refused_by, outcome_at}
 
 -- outcomes of the same numbers are one

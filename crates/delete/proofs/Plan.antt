@@ -20,20 +20,9 @@ use Rattle.table.specs.Record.{Record, record_of, free, children, largest_table}
 use Rattle.table.specs.Table.{records_of, records_in, at}
 use Rattle.table.specs.Records.{records_length, records_at}
 use Rattle.table.specs.RoundTrip.{bytes_back}
-use Rattle.table.specs.Stands.{
-  Stands,
-  WholeRecords,
-  Walkable,
-  right_are,
-  are_whole,
-  whole_are,
-  whole_same,
-  in_same,
-  are_large,
-}
+use Rattle.table.specs.Stands.{Stands, Walkable, right_are, are_whole, whole_are, whole_same, in_same, are_large}
 use Rattle.judge.specs.WellFormed.{WellFormed}
 use Rattle.survey.specs.declared.Findings.{Findings}
-use Rattle.survey.specs.Answers.{Answers}
 use Rattle.survey.specs.Survey.{used_in, root_of, kind_of, slot_of_card, largest_timestamp}
 use Rattle.admission.specs.declared.Admitted.{Admitted}
 use Rattle.admission.specs.Admission.{Admits, admitted_readable}

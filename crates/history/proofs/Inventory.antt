@@ -1,7 +1,7 @@
 -- Where what is asked of a history holds, `cards` lists exactly the stored cards (`cards_lists`), and `card` tells what
 -- each was stored with (`card_tells`). From what the two calls promise of every well-formed table, whose records are
 -- told by the stored cards. Assumes nothing.
-use Rattle.std.specs.Prelude.{ℕ, ◌≤◌, ◌<◌, ◌≡◌, refl, ◌↔◌, length, take, drop}
+use Rattle.std.specs.Prelude.{ℕ, ◌≤◌, ◌<◌, ◌≡◌, refl, length, take}
 use Rattle.std.proofs.Common.{sym, subst, ◌∙◌, arith}
 use mathlib.Core.List.{List, Memᴰ}
 use Rattle.std.proofs.lemmas.List.{length-map}
@@ -14,7 +14,7 @@ use Rattle.table.specs.Table.{records_in}
 use Rattle.judge.specs.Decided.{formed_decided}
 use Rattle.survey.specs.Survey.{slot_of_card}
 use Rattle.survey.specs.Laws.{slot_has_card, no_card_before}
-use Rattle.tree.specs.Slots.{◌∈◌, Distinct, distinct_length, image_from, image_to}
+use Rattle.tree.specs.Slots.{◌∈◌, distinct_length, image_from, image_to}
 use Rattle.newcomer.specs.Newcomer.{Newcomer, newcomer, brought, brought_is, brought_card}
 use Rattle.view.specs.Shaped.{Shaped, shaped_bytes}
 use Rattle.view.specs.Formed.{used_within}

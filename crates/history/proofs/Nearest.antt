@@ -1,7 +1,7 @@
 -- Where what is asked of a history holds, an accepted nearest call lists exactly the first k of all stored cards
 -- (`nearest_finds`). From what the call promises of every sound table, whose records are told by the stored cards.
 -- Assumes nothing.
-use Rattle.std.specs.Prelude.{ℕ, ◌≤◌, min, ◌≡◌, refl, Bool, ◌&&◌, ◌||◌, eqb, ltb, length, take, drop}
+use Rattle.std.specs.Prelude.{ℕ, ◌≤◌, min, ◌≡◌, refl, Bool, length, take}
 use Rattle.std.proofs.Common.{sym, subst, ◌∙◌, arith}
 use Rattle.std.proofs.Math.Path.{ap}
 use mathlib.Core.List.Memᴰ.{head as first}
@@ -27,7 +27,7 @@ use Rattle.tree.proofs.Nearest.Order.{ahead_orders}
 use Rattle.view.specs.View.{view_of}
 use Rattle.view.specs.Survey.{used_in_used_count}
 use Rattle.newcomer.specs.Newcomer.{Newcomer, brought}
-use Rattle.nearest.specs.Nearest.{Outcome, pair, compared_slots, refusal_of, nearest_of}
+use Rattle.nearest.specs.Nearest.{pair, compared_slots, refusal_of, nearest_of}
 use Rattle.nearest.proofs.Promises as Nearests
 use Rattle.view.specs.Sound.{SoundTable}
 use Rattle.view.specs.Shaped.{Shaped, shaped_bytes}

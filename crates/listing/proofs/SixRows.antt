@@ -1,23 +1,15 @@
 -- The listing computed on rows of records: what its lines print, what the records then are, and that the search which
 -- forgot eleven cards finds card 14. Assumes nothing.
-use Rattle.std.specs.Prelude.{ℕ, zero, suc, ◌≤◌, ◌<◌, ◌≡◌, refl, replicate}
-use Rattle.std.proofs.Common.{sym, ap, ◌∙◌, arith}
-use mathlib.Core.List.{List, [], ◌∷◌, ◌++◌, flat_map}
-use Rattle.places.specs.Fill.{zeros_at}
+use Rattle.std.specs.Prelude.{◌≡◌, refl, replicate}
+use mathlib.Core.List.{[], ◌∷◌, flat_map}
 use Rattle.places.specs.Sum.{sum_to}
 use Rattle.places.specs.Test.{count_to, all_to}
 use Rattle.number.specs.Number.{number_at}
-use Rattle.number.specs.Frame.{Bytes}
-use Rattle.refusals.specs.Limits.{most_records}
-use Rattle.distance.specs.Laws.{farthest}
 use Rattle.distance.specs.Signature.{readings_at}
 use Rattle.distance.specs.Kind.{apart}
 use Rattle.distance.specs.Readings.{readings_apart}
-use Rattle.distance.specs.Edges.{P10 as readings-apart, P11 as masks-apart}
-use Rattle.table.specs.Record.{Record, free, record_of}
-use Rattle.table.specs.Table.{at, records_of}
-use Rattle.table.specs.Size.{rows_are}
-use Rattle.writing.specs.Put.{put_radius}
+use Rattle.table.specs.Record.{free}
+use Rattle.table.specs.Table.{at}
 use Rattle.judge.specs.WellFormed.{well_formed, is_free, is_filled, past_count, all_formed, distinct, one_kind}
 use Rattle.judge.specs.WellFormed.{one_root}
 use Rattle.judge.specs.WellFormed.{all_hung, all_owned, all_rising}
@@ -30,7 +22,7 @@ use Rattle.tree.specs.Insert.{path, last, nearest, onward, hangs}
 use Rattle.admission.specs.Query.{other_kind}
 use Rattle.placing.specs.Place.{placed, as_root, hanging, hanging_from}
 use Rattle.descent.specs.Descent.{raised_along}
-use Rattle.newcomer.specs.Newcomer.{Newcomer, raised, adopting, fresh}
+use Rattle.newcomer.specs.Newcomer.{raised, adopting, fresh}
 use Rattle.insert.specs.Insert.{right_arguments}
 use Rattle.search.specs.Search.{entered, cards, distances}
 use Rattle.view.specs.Freed.{freed_at}
@@ -38,38 +30,11 @@ use Rattle.removal.specs.Removal.{leaving, removed, unhung, disowning}
 use Rattle.age.specs.Age.{oldest_first, put_by_age}
 use Rattle.back.specs.Back.{put_back}
 use Rattle.delete.specs.Delete.{deleted, waiting, clock_would_pass}
-use Rattle.soundness.specs.Soundness.{is_sound, all_covered, all_near, all_in, check_of}
-use Rattle.history.specs.History.{Typed, AllTyped, Line, line, cleared, without, run, report_of, reports}
-use Rattle.history.specs.Demands.{Holds}
-use Rattle.history.proofs.Kept.{all_hold, run_holds}
-use Rattle.history.proofs.Holds.{cleared_holds, sized}
-use Rattle.listing.specs.Rows.{
-  Step,
-  insert,
-  delete,
-  search,
-  check,
-  call,
-  calls,
-  insert_refusal,
-  insert_placed,
-  delete_refusal,
-  delete_placed,
-  search_refusal,
-  search_line,
-  report_on,
-  after_on,
-  reports_on,
-  run_on,
-  stored_on,
-  stored_after,
-  check_on,
-  reradius,
-  check_reradius,
-}
-use Rattle.listing.specs.OnRows.{cleared_rows, report_on_lem, reports_on_lem, run_on_lem, stored_after_lem}
-use Rattle.listing.specs.Edges.{reading, put, brings, look, six_cards, paper_listing, rest, six_rows, printed}
-use Rattle.listing.specs.Edges.{left_stored, six, Edges}
+use Rattle.soundness.specs.Soundness.{is_sound, all_covered, all_near, all_in}
+use Rattle.history.specs.History.{line, without}
+use Rattle.listing.specs.Rows.{insert_refusal, insert_placed, delete_refusal, delete_placed, search_refusal, search_line, report_on, after_on, reports_on, run_on, stored_on, stored_after, check_on, reradius}
+use Rattle.listing.specs.Edges.{look, paper_listing, six_rows, printed}
+use Rattle.listing.specs.Edges.{left_stored}
 
 pub on_rows :
     (reports_on paper_listing (replicate 512 free) ≡ printed)

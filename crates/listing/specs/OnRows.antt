@@ -32,7 +32,6 @@ use Rattle.search.specs.Search.{listing}
 use Rattle.search.specs.Search as Search
 use Rattle.search.specs.Laws.{accepted_is}
 use Rattle.search.specs.Promises.{refused_leaves}
-use Rattle.history.specs.History as History
 use Rattle.history.specs.History.{outcome_of, stored_by, tells_of, Typed, AllTyped, State, cleared}
 use Rattle.history.specs.History.{after, run, Line, report_of, reports}
 use Rattle.history.specs.Demands.{Holds}

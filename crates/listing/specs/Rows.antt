@@ -23,14 +23,9 @@ use Rattle.admission.specs.Query.{other_kind, known_change}
 use Rattle.placing.specs.Place.{Placed, placed}
 use Rattle.newcomer.specs.Newcomer.{Newcomer}
 use Rattle.insert.specs.Insert.{right_arguments}
-use Rattle.insert.specs.Insert as Insert
 use Rattle.insert.specs.Accepted.{comer}
-use Rattle.insert.specs.Promises as Inserts
 use Rattle.delete.specs.Delete.{deleted, clock_would_pass}
-use Rattle.delete.specs.Delete as Delete
-use Rattle.delete.proofs.Promises as Deletes
 use Rattle.search.specs.Search.{cards, distances}
-use Rattle.search.specs.Search as Search
 use Rattle.soundness.specs.Soundness.{is_sound, check_of}
 use Rattle.history.specs.History as History
 use Rattle.history.specs.History.{Call, writes, reads, State}

@@ -1,10 +1,8 @@
 -- `descent::descend` meets its contract. The loops' invariants are `Walking`, what is left of the walk, and
 -- `Scanning`, what is left of the scan for the nearest child. Assumes nothing.
-use Rattle.std.specs.Prelude.{◌-◌, ◌≡◌, ltb}
+use Rattle.std.specs.Prelude.{◌≡◌, ltb}
 use Rattle.std.proofs.Common.{◌∙◌, arith, lt-ltb, le-ltb}
-use Rattle.places.specs.Cases.{either}
 use Rattle.places.specs.Choice.{pick}
-use Rattle.number.specs.Frame.{Bytes}
 use Rattle.descent.proofs.Descending.{still_here, few, walk_on, walk_ends, scanning, scanning_child, scanning_more}
 use Rattle.descent.proofs.descend.Goals.{Joined-e-near, then-e-near, else-e-near}
 use Rattle.descent.proofs.descend.Goals as goal

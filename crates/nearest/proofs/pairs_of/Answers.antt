@@ -1,5 +1,5 @@
 -- `nearest::pairs_of` meets its contract: at each turn the first i pairs are told by the first i keys. Assumes nothing.
-use Rattle.std.specs.Prelude.{◌-◌, ◌≡◌, refl}
+use Rattle.std.specs.Prelude.{◌≡◌, refl}
 use Rattle.std.proofs.Common.{arith, rules}
 use Rattle.nearest.specs.Keys.{told_more}
 use Rattle.nearest.proofs.pairs_of.Goals as goal

@@ -11,7 +11,7 @@ use Rattle.refusals.specs.Refusal.{done}
 use Rattle.survey.specs.Survey.{used_in}
 use Rattle.view.specs.Readable.{readable_walkable, readable_root}
 use Rattle.steps.specs.Step.{query}
-use Rattle.walk.specs.State.{State, state, state_of, Fits, walked}
+use Rattle.walk.specs.State.{State, state, Fits, walked}
 use Rattle.search.specs.Search.{no_bound, cards, distances, listing}
 use Rattle.search.specs.Listing.{listing_none, walk_leaves, walk_fits}
 use Rattle.search.proofs.accepted.Goals.{Else-used-eq0}

@@ -1,8 +1,7 @@
 -- `steps::bound_of` meets its contract. The loop's invariant: what is left of the definition from sibling j on, started
 -- from the lowest so far, is the definition itself. Assumes nothing.
-use Rattle.std.specs.Prelude.{ℕ, ◌+◌, ◌*◌, ◌-◌, ◌≤◌, ◌<◌, min, ◌≡◌, refl, ltb, get_or, length}
+use Rattle.std.specs.Prelude.{ℕ, ◌+◌, ◌*◌, ◌≤◌, ◌<◌, min, ◌≡◌, refl, ltb, get_or, length}
 use Rattle.std.proofs.Common.{sym, ap, subst, ◌∙◌, rules, arith}
-use Rattle.places.specs.Cases.{either}
 use Rattle.table.specs.Record.{record_of, slot}
 use Rattle.table.specs.Stands.{Stands}
 use Rattle.tree.specs.Search.{least}

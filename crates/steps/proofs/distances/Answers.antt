@@ -1,6 +1,6 @@
 -- `steps::distances` meets its contract. The loop's invariant: the distances of the children passed stand in
 -- their places. Assumes nothing.
-use Rattle.std.specs.Prelude.{◌-◌, ◌≡◌}
+use Rattle.std.specs.Prelude.{◌≡◌}
 use Rattle.std.proofs.Common.{sym, ap, subst, ◌∙◌, arith, rules}
 use Rattle.table.specs.Record.{record_of}
 use Rattle.table.specs.Stands.{Stands}

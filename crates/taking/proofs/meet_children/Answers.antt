@@ -1,6 +1,6 @@
 -- `taking::meet_children` meets its contract. The loop's invariant: the children from j on, compared after what stands
 -- in the rows, leave what all children leave. Assumes nothing.
-use Rattle.std.specs.Prelude.{◌-◌, ◌≤◌, ◌<◌, refl}
+use Rattle.std.specs.Prelude.{◌≤◌, ◌<◌, refl}
 use Rattle.std.proofs.Common.{sym, subst, ◌∙◌, arith, rules}
 use Rattle.refusals.specs.Limits.{most_children}
 use Rattle.table.specs.Record.{record_of}

@@ -1,13 +1,13 @@
 -- `walk::walk` meets its contract. Up to the loop this record is entered and noted, and all its children are left; in a
 -- turn a child is too far, or not covered, or walked from with its bound. Assumes nothing.
-use Rattle.std.proofs.Common.{ℕ, ◌+◌, ◌-◌, ◌*◌, ◌≤◌, ◌<◌, ◌≡◌, refl, Bool, List, ◌++◌, length, get_or, sym, ap, subst}
+use Rattle.std.proofs.Common.{ℕ, ◌+◌, ◌-◌, ◌*◌, ◌≤◌, ◌<◌, ◌≡◌, refl, List, ◌++◌, length, get_or, sym, ap, subst}
 use Rattle.std.proofs.Common.{◌∙◌, arith, rules}
 use Rattle.std.proofs.Math.Seq.{sets, length-sets}
 use Rattle.refusals.specs.Limits.{most_children}
 use Rattle.distance.specs.Laws.{farthest}
 use Rattle.table.specs.Record.{record_of, slot}
 use Rattle.table.specs.Stands.{Stands}
-use Rattle.steps.specs.Step.{Query, query, away_in, is_entered, is_covered, card_within}
+use Rattle.steps.specs.Step.{query, away_in, is_entered, is_covered, card_within}
 use Rattle.steps.specs.Loop.Children.{smallest_to, nearest_to, child_bound, entered_from, rest_from}
 use Rattle.steps.specs.Loop.Laws as Children
 use Rattle.walk.specs.State.{State, state, state_of, Fits, after, noted, walked}

@@ -1,6 +1,6 @@
 -- `insert::call::insert` meets its contract: the call ends refused by the admission, refused by its own tests, or
 -- placed. Assumes nothing.
-use Rattle.std.specs.Prelude.{ℕ, ◌≡◌}
+use Rattle.std.specs.Prelude.{◌≡◌}
 use Rattle.std.proofs.Common.{sym, ◌∙◌, arith}
 use Rattle.number.specs.Frame.{Bytes}
 use Rattle.table.specs.Stands.{right_are}

@@ -1,6 +1,6 @@
 -- `inventory::all::list_cards` meets its contract. The loop's invariant: the cards of the first s slots are the list's
 -- first entries, and the entries from `used` on are as they were. The measure is the slots left. Assumes nothing.
-use Rattle.std.specs.Prelude.{◌<◌, ◌-◌, refl, not, eqb}
+use Rattle.std.specs.Prelude.{◌<◌, refl, not, eqb}
 use Rattle.std.proofs.Common.{arith, rules}
 use Rattle.admission.specs.Verdict.{byte_most}
 use Rattle.table.specs.Record.{record_of}
