@@ -1,5 +1,5 @@
 -- All that waited are back: the rows are well formed, sound if those before were, and hold exactly what those before
--- held and what the waiting records brought (`put_back_returned`, `put_back_sound`, `putBack-stored`). By induction on
+-- held and what the waiting records brought (`put_back_returned`, `put_back_sound`, `returned_stored`). By induction on
 -- those that wait. Assumes nothing.
 use Rattle.std.specs.Prelude.{ℕ, ◌+◌, ◌≤◌, ◌≡◌, refl, ◌⊎◌, ◌↔◌, length}
 use Rattle.std.proofs.Common.{sym, ◌∙◌, inl, inr}

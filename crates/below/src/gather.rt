@@ -12,8 +12,8 @@ use age::{note_key, oldest_first};
 fn gather(t: &[u8], a: usize, keys: &mut [u64], m: usize, left: usize) -> usize
     requires { Walkable t.now × Stands t.now a × (length t.now ≤ largest_table)
         × (m + length (slots_under (record_of t.now) left a) ≤ length keys.old) }
-    ensures { ◌≡◌ {A = Gathered} (record { keys = keys.exit.now; at = result })
-        (gathered (record_of t.now) keys.entry.now m (slots_under (record_of t.now) left a)) }
+    ensures { ◌≡◌ {A = Gathered} (record { keys = keys.new; at = result })
+        (gathered (record_of t.now) keys.old m (slots_under (record_of t.now) left a)) }
 {
     if left == 0 {
         return m;

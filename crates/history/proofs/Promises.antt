@@ -1,8 +1,7 @@
 -- The promises, whole. Each call's outcome (`clear_of`, `insert_of`, `delete_of`, `search_of`, `nearest_of`,
--- `check_of`,
--- `all_cards_of`, `one_card_of`) is what its contract equates the code with, so each statement here is about what the
--- code
--- does. Read first History.antt, what a history is, and Demands.antt, what is asked. Assumes nothing.
+-- `check_of`, `all_cards_of`, `one_card_of`) is what its contract equates the code with, so each statement here is
+-- about what the code does. Read first History.antt, what a history is, and Demands.antt, what is asked. Assumes
+-- nothing.
 use Rattle.std.specs.Prelude.{ℕ, ◌+◌, ◌≤◌, ◌≡◌, true, ◌&&◌, not, ◌↔◌, List, [], ◌∷◌, leb, ltb, eqb, length}
 use Rattle.std.proofs.Math.Path.{refl}
 use Rattle.std.proofs.Common.{sym, ◌∙◌}

@@ -1,6 +1,5 @@
 -- What is asked of `cards` and `card` after a history: they list exactly the stored cards, and tell what each was
--- stored
--- with.
+-- stored with.
 use Rattle.std.specs.Prelude.{ℕ, ◌≤◌, ◌≡◌, ◌↔◌, length, take, drop}
 use mathlib.Core.List.{List, Memᴰ}
 use Rattle.distance.specs.Signature.{readings_at}

@@ -15,7 +15,8 @@ use Rattle.history.specs.History.{Typed, AllTyped, cleared, run}
 use Rattle.history.specs.Demands.{Holds}
 use Rattle.history.proofs.Kept.{all_hold, run_holds}
 use Rattle.history.proofs.Holds.{cleared_holds, sized}
-use Rattle.listing.specs.Rows.{Step, call, calls, report_on, reports_on, run_on, stored_after, check_on, reradius, check_reradius}
+use Rattle.listing.specs.Rows.{Step, call, calls, report_on, reports_on, run_on, stored_after, check_on, reradius}
+use Rattle.listing.specs.Rows.{check_reradius}
 use Rattle.listing.specs.OnRows.{cleared_rows, report_on_lem, reports_on_lem, run_on_lem, stored_after_lem}
 use Rattle.listing.specs.Edges.{reading, put, look, six_cards, paper_listing, rest, six_rows}
 use Rattle.listing.specs.Edges.{left_stored, six, Edges}

@@ -32,7 +32,9 @@ use Rattle.back.specs.Back.{put_back}
 use Rattle.delete.specs.Delete.{deleted, waiting, clock_would_pass}
 use Rattle.soundness.specs.Soundness.{is_sound, all_covered, all_near, all_in}
 use Rattle.history.specs.History.{line, without}
-use Rattle.listing.specs.Rows.{insert_refusal, insert_placed, delete_refusal, delete_placed, search_refusal, search_line, report_on, after_on, reports_on, run_on, stored_on, stored_after, check_on, reradius}
+use Rattle.listing.specs.Rows.{insert_refusal, insert_placed, delete_refusal, delete_placed, search_refusal}
+use Rattle.listing.specs.Rows.{search_line, report_on, after_on, reports_on, run_on, stored_on, stored_after, check_on}
+use Rattle.listing.specs.Rows.{reradius}
 use Rattle.listing.specs.Edges.{look, paper_listing, six_rows, printed}
 use Rattle.listing.specs.Edges.{left_stored}
 

@@ -1,7 +1,6 @@
 -- The rows of keys as images of the tree's lean work: what each record that waits and each card held is as a key.
 -- The theorem is in proofs/Same/Finish, and what it stands on in proofs/Same/Steps: each step of the one is the same
--- step
--- of the other.
+-- step of the other.
 use Rattle.std.specs.Prelude.{ℕ, ◌≤◌, ◌<◌, length}
 use mathlib.Core.List.{List, map, Memᴰ}
 use Rattle.std.proofs.Common.{arith}

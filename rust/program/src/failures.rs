@@ -1,6 +1,6 @@
 //! The program where its input or its output fails: it has to end, and to tell in one sentence on standard error which
-//! of the two it was and where it stood. Its exit status is 0 all the same: the sentence is all. Where nobody reads what
-//! it writes, Rattle's own start has the system's signal ignored, so that the sentence comes there too.
+//! of the two it was and where it stood. Its exit status is 0 all the same: the sentence is all. Where nobody reads
+//! what it writes, Rattle's own start has the system's signal ignored, so that the sentence comes there too.
 
 use crate::commands;
 use model::calls::Model;

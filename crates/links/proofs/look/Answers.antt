@@ -1,5 +1,5 @@
--- `links::look` meets its contract: a record that does not fit, or a second root, ends the look, a record without card
--- adds its slot, and any other its own numbers. Assumes nothing.
+-- `links::look` meets its contract: a record that does not fit, or a second root, ends the look, a record without
+-- card adds its slot, and any other its own numbers. Assumes nothing.
 use Rattle.std.specs.Prelude.{ℕ, ◌+◌, refl}
 use Rattle.std.proofs.Common.{sym, ◌∙◌, arith}
 use Rattle.table.specs.Record.{Used, record_of}
