@@ -25,7 +25,7 @@ soname=libplotvuga.so.$major
 shared=libplotvuga.so.$version
 
 if [ -z "$static" ]; then
-    echo "proving and building the library: some 3 minutes on two cores the first time, seconds after that"
+    echo "proving and building the library: some 6 minutes on two cores the first time, seconds after that"
     bash tools/library.sh plotvuga
     static=$PWD/target/staticlib/libplotvuga.a
 fi

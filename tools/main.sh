@@ -6,7 +6,7 @@ cd "$(dirname "$0")/.."
 echo "What it needs:"
 bash tools/setup.sh | sed 's/^/  /'
 [ "${PIPESTATUS[0]}" -eq 0 ] || exit 1
-echo "The bench program, with every crate below it: some 10 minutes on two cores the first time, seconds after that."
+echo "The bench program, with every crate below it: some 6 minutes on two cores the first time, seconds after that."
 if ! bash tools/program.sh; then
     echo "The bench program is not proved, so it is not run; target/log/program has all that the prover said." >&2
     exit 1
