@@ -64,7 +64,8 @@ opened() {
 
 long_paths() { sources antt | xargs perl -0777 -ne 'print "$ARGV\n" while /(\.before\s*){5,}/g'; }
 
-wide_lines() { sources rt antt rs sh c h | xargs grep -nHE '^.{121,}' | cut -c1-160; }
+# rt fmt lays a root file's tactic attribute in one line, whatever its length.
+wide_lines() { sources rt antt rs sh c h | xargs grep -nHE '^.{121,}' | grep -v ':#!\[tactic(' | cut -c1-160; }
 
 no_head() {
     local file start
@@ -170,9 +171,10 @@ names_in() { # CRATE
         sed -E 's/^Rattle\.//; s/::$//' | grep -vx "$1" | sort -u
 }
 
+# Known are the repository's crates, and what one of them lists of the kit's.
 names_listed() {
     local crate deps known wrong=''
-    known=$(sed -nE 's/^([a-z_]+)( staticlib)?:.*/\1/p' crates.txt | sort)
+    known=$(sed -nE 's/ *#.*//; s/^([a-z_]+)( staticlib)?:/\1/p' crates.txt | xargs -n 1 | sort -u)
     while IFS=: read -r crate deps; do
         crate=${crate% staticlib} deps=$(printf '%s\n' ${deps%%#*} | sort)
         [ "$deps" = "$(comm -12 <(names_in "$crate") <(printf '%s\n' "$known"))" ] || wrong="$wrong $crate"

@@ -1,11 +1,14 @@
 -- What every call learns of a table before anything else: refusal 1 or 2, or else the answers to the small questions.
 -- Assumes nothing.
-use Rattle.std.specs.Prelude.{ℕ, ◌≡◌, refl, true, false, not, List, [], ◌∷◌, ◌++◌, eqb, length}
-use Rattle.std.proofs.Common.{sym, ap, ◌∙◌, arith, eq-eqb, ne_eqb}
+use Rattle.std.specs.Prelude.{ℕ, ◌≡◌, refl, true, false, not, List, [], ◌∷◌, ◌++◌, eqb, length, Result, Ok, Err, IfOk}
+use Rattle.std.proofs.Common.{sym, subst, ap, ◌∙◌, arith, eq-eqb, ne_eqb}
 use Rattle.std.proofs.Math.Decide.{ℕ_discrete}
 use Rattle.std.proofs.lemmas.Bool.{not-false}
 use Rattle.places.specs.Choice.{pick, or_left, or_right}
 use Rattle.refusals.specs.Refusal.{Test, first_of, done, SIZE, TABLE}
+use Rattle.refusals.specs.declared.Refusal.{Refusal}
+use Rattle.refusals.specs.declared.Refusal.TheVariants as refusal
+use Rattle.refusals.specs.Told.{number_of, told}
 use Rattle.refusals.specs.First.{any_holds, first_append, first_none}
 use Rattle.table.specs.Record.{Record, record_of}
 use Rattle.table.specs.Table.{right_size, records_in}
@@ -14,23 +17,30 @@ use Rattle.table.specs.Same.{past_are}
 use Rattle.judge.specs.WellFormed.{well_formed}
 use Rattle.judge.specs.Readable.{Readable}
 use Rattle.survey.specs.declared.Findings.{Findings}
-use Rattle.survey.specs.Answers.{Answers, found}
-use Rattle.admission.specs.declared.Admitted.{Admitted}
+use Rattle.survey.specs.Answers.{Answers}
 
 -- "1, SIZE: the table's length isn't a multiple of 64 from 64 to 65,536; 2, TABLE: not well formed"
 abbrev pub admission_tests : List ℕ → List Test
 admission_tests l =
     (not (right_size (length l)), SIZE) ∷ (not (well_formed (records_in l) (record_of l)), TABLE) ∷ []
 
--- of a refused table nothing is told
-abbrev pub nothing : Findings
-nothing = found 0 0 0 0 0
+-- r is what is learnt of the table l: its refusal, or else the answers to the small questions
+pub record Admits (l : List ℕ) (r : Result Findings Refusal) : Type 0 where
+  pub refusal_is : told r ≡ first_of (admission_tests l)
+  pub answers : IfOk r (λ f. Answers (records_in l) (record_of l) f)
 
--- r is what is learnt of the table l
-pub record Admits (l : List ℕ) (r : Admitted) : Type 0 where
-  pub refusal_is : r.refusal ≡ first_of (admission_tests l)
-  pub answers : r.refusal ≡ done → Answers (records_in l) (record_of l) r.found
-  pub silent : (r.refusal ≡ done → ⊥) → r.found ≡ nothing
+-- ---- what a call knows once it looks at the answer
+
+module _ {l : List ℕ} {r : Result Findings Refusal} (a : Admits l r) where
+  pub admitted : {f : Findings} → r ≡ Ok f → first_of (admission_tests l) ≡ done
+  admitted e = sym a.refusal_is ∙ ap told e
+
+  pub admitted_answers : {f : Findings} → r ≡ Ok f → Answers (records_in l) (record_of l) f
+  admitted_answers e =
+      subst (λ (x : Result Findings Refusal). IfOk x (λ f. Answers (records_in l) (record_of l) f)) e a.answers
+
+  pub not_admitted : {why : Refusal} → r ≡ Err why → number_of why ≡ first_of (admission_tests l)
+  not_admitted e = sym (ap told e) ∙ a.refusal_is
 
 -- ---- a table that is admitted
 
@@ -76,39 +86,20 @@ module _ (l : List ℕ) (own : List Test) where
 pub past_kind : (l : List ℕ) → right_size (length l) ≡ true → (record_of l (records_in l)).kind ≡ 0
 past_kind l e = ap (λ (r : Record). r.kind) (past_are l (records_in l) (records_in l) (right_are l e) (omega arith))
 
-pub admits_size :
-    (l : List ℕ) (r : Admitted) → right_size (length l) ≡ false → r.refusal ≡ SIZE → r.found ≡ nothing → Admits l r
-admits_size l r e k f =
-    record {
-      refusal_is = k ∙ sym (rw e);
-      answers = λ z. absurd (omega (arith, k, z));
-      silent = λ _. f;
-    }
+pub admits_size : (l : List ℕ) → right_size (length l) ≡ false → Admits l (Err refusal.Size)
+admits_size l e = record { refusal_is = sym (rw e); answers = tt }
 
 pub admits_table :
-    (l : List ℕ) (r : Admitted)
+    (l : List ℕ)
     → right_size (length l) ≡ true
     → well_formed (records_in l) (record_of l) ≡ false
-    → r.refusal ≡ TABLE
-    → r.found ≡ nothing
-    → Admits l r
-admits_table l r e w k f =
-    record {
-      refusal_is = k ∙ sym (rw (e, w));
-      answers = λ z. absurd (omega (arith, k, z));
-      silent = λ _. f;
-    }
+    → Admits l (Err refusal.Table)
+admits_table l e w = record { refusal_is = sym (rw (e, w)); answers = tt }
 
 pub admits_done :
-    (l : List ℕ) (r : Admitted)
+    (l : List ℕ) (f : Findings)
     → right_size (length l) ≡ true
     → well_formed (records_in l) (record_of l) ≡ true
-    → r.refusal ≡ done
-    → Answers (records_in l) (record_of l) r.found
-    → Admits l r
-admits_done l r e w k a =
-    record {
-      refusal_is = k ∙ sym (rw (e, w));
-      answers = λ _. a;
-      silent = λ ne. absurd (ne k);
-    }
+    → Answers (records_in l) (record_of l) f
+    → Admits l (Ok f)
+admits_done l f e w a = record { refusal_is = sym (rw (e, w)); answers = a }

@@ -1,14 +1,15 @@
--- The two fields by which records are told apart, gathered in a row. Assumes nothing.
-use Rattle.std.specs.Prelude.{ℕ, ◌≤◌, ◌<◌, ◌≡◌, List, length, get_or, take}
+-- Keys as a call gives them, and keys gathered in a row. Assumes nothing.
+use Rattle.std.specs.Prelude.{ℕ, ◌≤◌, ◌<◌, ◌≡◌, Bool, List, length, get_or, take}
 use Rattle.std.proofs.Common.{ap, ◌∙◌, length-take-le, get_or-take}
 use Rattle.distinct.specs.Distinct.{distinct_to, distinct_same}
-use Rattle.table.specs.Record.{Record}
-use Rattle.admission.specs.declared.keys.Key.{Key}
-use Rattle.admission.specs.declared.keys.Key.TheVariants.{Card, Timestamp}
 
-abbrev pub key_of : Key → Record → ℕ
-key_of Card r = r.card
-key_of Timestamp r = r.timestamp
+-- a call gives for each of n records the key that it has
+abbrev pub Gives : ℕ → (ℕ → ℕ → Type 0) → (ℕ → ℕ) → Type 0
+Gives n gives key = (s k : ℕ) → s < n → gives s k → k ≡ key s
+
+-- the answer is whether the keys that it gives are distinct
+abbrev pub ToldApart : ℕ → (ℕ → ℕ → Type 0) → Bool → Type 0
+ToldApart n gives answer = (key : ℕ → ℕ) → Gives n gives key → answer ≡ distinct_to n key
 
 -- the first n of a row that holds f are as distinct as f
 pub gathered :

@@ -1,9 +1,11 @@
 -- What the pass has seen and the two tests of keys give the verdict: the counting form, which is proved to say what the
 -- paper's clauses say. And of a well-formed table the pass has found what calls ask of it. Assumes nothing.
-use Rattle.std.specs.Prelude.{ℕ, ◌+◌, ◌*◌, ◌≤◌, ◌<◌, ◌≡◌, refl, Bool, true, false, ◌&&◌, not, ltb}
+use Rattle.std.specs.Prelude.{ℕ, zero, suc, ◌+◌, ◌*◌, ◌≤◌, ◌<◌, ◌≡◌, refl, Bool, true, false, ◌&&◌, not}
+use Rattle.std.specs.Prelude.{Option, MatchOption, is_some}
+use Rattle.std.specs.Option.{unwrap_or}
+use Rattle.std.specs.Bool.{then_some}
 use Rattle.std.proofs.Math.Path.{sym, ap}
 use Rattle.std.proofs.Common.{◌∙◌, arith, leb-true, eqb-true}
-use Rattle.std.proofs.lemmas.Bool.{false≢true}
 use Rattle.std.proofs.Math.Dec.{eqb}
 use mir.Val.{bool_byte}
 use Rattle.places.specs.Choice.{pick, and_left, and_right}
@@ -19,15 +21,15 @@ use Rattle.judge.specs.Passing.{kind_none, kind_all}
 use Rattle.judge.specs.Counting.{counted_same}
 use Rattle.survey.specs.Survey.{first_from, used_in, lowest_free, root_of, kind_of}
 use Rattle.survey.specs.First.{first_from_lem}
-use Rattle.survey.specs.Answers.{Answers, found}
-use Rattle.links.specs.Loop.Found.{first_end, some_end}
+use Rattle.survey.specs.Answers.{Answers}
+use Rattle.links.specs.Loop.Found.{first_end, first_found, one_end, one_found, one_counted}
 use Rattle.links.specs.declared.Seen.{Seen}
-use Rattle.links.specs.Loop.Seen.{SeenBefore, Ended, is_empty, largest_byte}
+use Rattle.links.specs.Loop.Seen.{SeenBefore, Misfit, is_empty, kind_found, largest_byte}
 
 -- what is asked of the numbers at the end
-abbrev pub numbers_agree : ℕ → Seen → Bool
-numbers_agree n seen =
-    let roots = bool_byte (ltb seen.root n) in
+abbrev pub numbers_agree : Seen → Bool
+numbers_agree seen =
+    let roots = bool_byte (is_some seen.root) in
     eqb roots (if_any seen.used) && eqb (seen.children + roots) seen.used
 
 pub byte_most : (t : Bool) → bool_byte t ≤ 1
@@ -41,59 +43,64 @@ any_byte used = go (eqb used 0)
     go true = refl
     go false = refl
 
-module _ (n : ℕ) (R : ℕ → Record) (small : n ≤ no_slot) (seen : Seen) (end : Ended n R seen) where
+-- the records are well formed, and all of them were seen, or they are not
+abbrev pub Judged : ℕ → (ℕ → Record) → Option Seen → Type 0
+Judged n R seen =
+    MatchOption seen (well_formed n R ≡ false) (λ all. (well_formed n R ≡ true) × SeenBefore n R n all)
+
+module _ (n : ℕ) (R : ℕ → Record) (small : n ≤ no_slot) where
   abbrev keys : Bool
   keys = distinct_to n (λ s. (R s).card) && distinct_to n (λ s. (R s).timestamp)
 
   -- by the records and the numbers, and then by the keys
-  by_parts : (t : Bool) → t ≡ all_to n (fits n R) && agree n R → t && keys ≡ well_formed n R
+  by_parts : (t : Bool) → all_to n (fits n R) && agree n R ≡ t → well_formed n R ≡ t && keys
   unfolding counted
-  by_parts t e = ap (λ (b : Bool). b && keys) e ∙ counted_same n R small
+  by_parts t e = sym (counted_same n R small) ∙ ap (λ (b : Bool). b && keys) e
 
   -- the pass refuses the table
-  pub unfit_not : seen.fit ≡ false → false ≡ well_formed n R
-  unfit_not e = by_parts false (sym (end.misfit e))
+  pub misfit_not : Misfit n R → well_formed n R ≡ false
+  misfit_not e = by_parts false e
 
-  module _ (fit : seen.fit ≡ true) where
-    abbrev all : SeenBefore n R n seen
-    all = end.whole fit
-
+  module _ (seen : Seen) (all : SeenBefore n R n seen) where
     pub children_few : n ≤ most_records → seen.children ≤ largest_byte * most_records
     children_few most = omega (arith, all.few)
 
-    passed_agree : numbers_agree n seen ≡ all_to n (fits n R) && agree n R
+    passed_agree : all_to n (fits n R) && agree n R ≡ numbers_agree seen
     unfolding agree
     passed_agree =
         let all_used : seen.used ≡ used_count n R = omega (arith, all.used) in
+        let roots = one_counted (is_root R) n seen.root all.root in
         λ i.
-        all.fit i
-        && (eqb (sym all.root.many i) (if_any (all_used i))
-        && eqb (all.children i + sym all.root.many i) (all_used i))
+        sym all.fit i
+        && (eqb (roots i) (if_any (sym all_used i)) && eqb (sym all.children i + roots i) (sym all_used i))
 
     -- the numbers refuse it
-    pub numbers_not : numbers_agree n seen ≡ false → false ≡ well_formed n R
-    numbers_not e = by_parts false (sym e ∙ passed_agree)
+    pub numbers_not : numbers_agree seen ≡ false → well_formed n R ≡ false
+    numbers_not e = by_parts false (passed_agree ∙ e)
 
     -- they do not, and the keys decide
-    pub keys_decide : numbers_agree n seen ≡ true → keys ≡ well_formed n R
-    keys_decide e = by_parts true (sym e ∙ passed_agree)
+    pub keys_decide : numbers_agree seen ≡ true → well_formed n R ≡ keys
+    keys_decide e = by_parts true (passed_agree ∙ e)
 
-    pub cards_not : numbers_agree n seen ≡ true → distinct_to n (λ s. (R s).card) ≡ false → false ≡ well_formed n R
+    pub cards_not : numbers_agree seen ≡ true → distinct_to n (λ s. (R s).card) ≡ false → well_formed n R ≡ false
     cards_not e c =
-        sym (ap (λ (t : Bool). t && distinct_to n (λ s. (R s).timestamp)) c) ∙ keys_decide e
+        keys_decide e ∙ ap (λ (t : Bool). t && distinct_to n (λ s. (R s).timestamp)) c
 
     pub timestamps_decide :
-        (timestamps : Bool)
-        → numbers_agree n seen ≡ true
+        numbers_agree seen ≡ true
         → distinct_to n (λ s. (R s).card) ≡ true
-        → timestamps ≡ distinct_to n (λ s. (R s).timestamp)
-        → timestamps ≡ well_formed n R
-    timestamps_decide timestamps e c t =
-        t ∙ sym (ap (λ (b : Bool). b && distinct_to n (λ s. (R s).timestamp)) c) ∙ keys_decide e
+        → well_formed n R ≡ distinct_to n (λ s. (R s).timestamp)
+    timestamps_decide e c =
+        keys_decide e ∙ ap (λ (t : Bool). t && distinct_to n (λ s. (R s).timestamp)) c
 
     -- timestamps that rise are all different
     pub rising_apart : seen.rising ≡ true → true ≡ distinct_to n (λ s. (R s).timestamp)
     rising_apart up = sym (all.apart up)
+
+    -- what was seen is told if the last test says so
+    pub judged : (t : Bool) → well_formed n R ≡ t → Judged n R (then_some t seen)
+    judged true e = (e, all)
+    judged false e = e
 
 -- ---- what the pass found for the calls
 
@@ -129,27 +136,38 @@ kind_first n R wf past =
     let end : a ≡ n = omega (arith, first.to) in
     kind_none R n (λ j b. first.before j (omega arith) (omega arith)) ∙ sym past ∙ sym (ap (λ (k : ℕ). (R k).kind) end))
 
-module _ (n : ℕ) (R : ℕ → Record) (seen : Seen) (end : Ended n R seen) (yes' : well_formed n R ≡ true) where
-  -- the pass saw every record of a well-formed table
-  formed_whole : n ≤ no_slot → SeenBefore n R n seen
-  formed_whole small = go seen.fit refl
-    where
-      go : (t : Bool) → seen.fit ≡ t → SeenBefore n R n seen
-      go true e = end.whole e
-      go false e = absurd (false≢true (unfit_not n R small seen end e ∙ yes'))
+-- one found is the kind, and none is kind 0
+found_kind : (k : ℕ) → unwrap_or (kind_found k) 0 ≡ k
+found_kind zero = refl
+found_kind (suc k) = refl
 
+module _ (n : ℕ) (R : ℕ → Record) (seen : Seen) (all : SeenBefore n R n seen) (yes' : well_formed n R ≡ true) where
   pub seen_answers :
-      n ≤ no_slot
-      → (R n).kind ≡ 0
-      → Answers n R (found seen.used seen.lowest seen.largest seen.root seen.kind)
+      (R n).kind ≡ 0
+      → Answers n R
+      (record {
+        used = seen.used;
+        lowest = seen.lowest;
+        largest = seen.largest;
+        root = seen.root;
+        kind = unwrap_or seen.kind 0;
+      })
   unfolding used_in lowest_free root_of
-  seen_answers small past =
-      let all = formed_whole small in
+  seen_answers past =
       let wf = (formed_decided n R).shows yes' in
       record {
         used = omega (arith, all.used);
-        lowest = first_end (is_empty R) n seen.lowest all.lowest;
+        lowest = (
+          first_end (is_empty R) n seen.lowest all.lowest,
+          first_found (is_empty R) n seen.lowest all.lowest,
+        );
         largest = all.largest;
-        root = some_end (is_root R) n seen.root (one_root_lem n R wf) all.root.some;
-        kind = all.kind ∙ kind_first n R wf past;
+        root = (
+          one_end (is_root R) n seen.root (one_root_lem n R wf) all.root,
+          one_found (is_root R) n seen.root all.root,
+        );
+        kind =
+            ap (λ (k : Option ℕ). unwrap_or k 0) all.kind
+            ∙ found_kind (kind_before R n)
+            ∙ kind_first n R wf past;
       }

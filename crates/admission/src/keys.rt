@@ -1,61 +1,39 @@
-// Cards told apart, and timestamps.
-ghost use Rattle.std.specs.Prelude.{◌≡◌, ◌+◌, ◌*◌, ◌≤◌, length};
+// Keys told apart: cards, and timestamps.
+ghost use Rattle.std.specs.Prelude.{◌≡◌, ◌≤◌, ◌<◌, ℕ, length, get_or};
 ghost use Rattle.refusals.specs.Limits.{most_records};
-ghost use Rattle.table.specs.Record.{record_of};
-ghost use Rattle.table.specs.Stands.{Stands, StandTo};
 ghost use Rattle.distinct.specs.Distinct.{distinct_to};
-ghost use Rattle.admission.specs.Key.{key_of};
+ghost use Rattle.admission.specs.Key.{ToldApart};
 
 use distinct::{CELLS, Seat};
 use refusals::limit::RECORDS;
 
-// Which field of a record is its key.
-#[derive(Clone, Copy)]
-pub enum Key {
-    Card,
-    Timestamp,
-}
-
-fn key_of(t: &[u8], s: usize, key: Key) -> u32
-    requires { Stands t.now s }
-    ensures { result ≡ key_of key (record_of t.now s) }
-{
-    match key {
-        Key::Card => table::card_of(t, s),
-        Key::Timestamp => table::timestamp_of(t, s),
-    }
-}
-
-// The question below by sorting. At each turn the keys of the records before s are gathered.
-fn by_order(t: &[u8], n: usize, key: Key) -> bool
-    requires { StandTo t.now n × (n ≤ most_records) }
-    ensures { result ≡ distinct_to n (λ s. key_of key (record_of t.now s)) }
-{
-    let mut keys = [0u32; RECORDS];
-    let mut s = 0;
-    while s < n {
-        keys[s] = key_of(t, s, key);
-        s += 1;
-    }
-    distinct::by_order(&keys[..n])
-}
-
-// Have no two of the n records the same key, 0 aside? At each turn the keys of the records before s are different, and
-// the cells hold just those. A key that finds no seat sends the whole question to the sort, so that no choice of keys
-// makes this slow.
-pub fn keys_distinct(t: &[u8], n: usize, key: Key) -> bool
-    requires { StandTo t.now n × (n ≤ most_records) }
-    ensures { result ≡ distinct_to n (λ s. key_of key (record_of t.now s)) }
+// Are the keys all different, 0 aside? At each turn those passed are, and the cells hold just them. A key that finds no
+// seat sends the whole question to the sort, so that no choice of keys makes this slow.
+fn all_distinct(keys: &[u32]) -> bool
+    requires { length keys.now ≤ most_records }
+    ensures { result ≡ distinct_to (length keys.now) (λ i. get_or keys.now i 0) }
 {
     let mut cells = [0u32; CELLS];
-    let mut s = 0;
-    while s < n {
-        match distinct::seat_key(&mut cells, key_of(t, s, key)) {
+    for key in keys {
+        match distinct::seat_key(&mut cells, *key) {
             Seat::Fresh => {}
             Seat::Seen => return false,
-            Seat::Crowded => return by_order(t, n, key),
+            Seat::Crowded => return distinct::by_order(keys),
         }
-        s += 1;
     }
     true
+}
+
+// Have no two of the n records the same key, 0 aside? The keys are gathered first, so that the seats are not written
+// out for each way to read a key. At each turn those of the records before s are.
+pub fn keys_distinct<F: Fn(usize) -> u32>(n: usize, key_of: F) -> bool
+    requires few { n ≤ most_records }
+    requires callable { (s : ℕ) → s < n → F.pre key_of s }
+    ensures { ToldApart n (F.post key_of) result }
+{
+    let mut keys = [0u32; RECORDS];
+    for s in 0..n {
+        keys[s] = key_of(s);
+    }
+    all_distinct(&keys[..n])
 }

@@ -7,31 +7,26 @@ ghost use Rattle.survey.specs.Survey.{largest_timestamp};
 ghost use Rattle.age.specs.Key.{slot_in};
 ghost use Rattle.below.specs.Loop.Clock.{no_marks, marked, unmarked, timestamp_in};
 
-use age::SLOTS;
+use age::slot_of_key;
 use refusals::limit::RECORDS;
 
-// Marks the slots in these keys. At each turn those in the first i are.
+// Marks the slots in these keys. At each turn those in the keys so far are. A mark is the number 1, as `marked` has it,
+// of which the theorems of deletion speak.
 fn mark(keys: &[u64], marks: &mut [u8])
     requires { (i : ℕ) → i < length keys.now → slot_in (get_or keys.now i 0) < length marks.old }
     ensures { marks.new ≡ marked keys.now marks.old }
 {
-    let mut i = 0;
-    while i < keys.len() {
-        let s = (keys[i] % SLOTS) as usize;
-        marks[s] = 1;
-        i += 1;
+    for &key in keys {
+        marks[slot_of_key(key)] = 1;
     }
 }
 
-// The timestamp of the record in slot s, or 0 if the slot is marked or free.
+// The timestamp of the record in slot s, or 0, which adds nothing to the largest, if the slot is marked or free.
 fn staying_timestamp(t: &[u8], marks: &[u8], s: usize) -> u32
     requires { Stands t.now s × (s < length marks.now) }
     ensures { result ≡ timestamp_in (unmarked marks.now (record_of t.now) s) }
 {
-    if marks[s] != 0 {
-        return 0;
-    }
-    if table::card_of(t, s) == 0 {
+    if marks[s] != 0 || table::card_of(t, s) == 0 {
         return 0;
     }
     table::timestamp_of(t, s)
@@ -43,11 +38,9 @@ fn largest_staying(t: &[u8], marks: &[u8], n: usize) -> u32
     requires { StandTo t.now n × (n ≤ length marks.now) }
     ensures { result ≡ largest_timestamp n (unmarked marks.now (record_of t.now)) }
 {
-    let mut largest: u32 = 0;
-    let mut s: usize = 0;
-    while s < n {
-        largest = survey::larger(staying_timestamp(t, marks, s), largest);
-        s += 1;
+    let mut largest = 0;
+    for s in 0..n {
+        largest = staying_timestamp(t, marks, s).max(largest);
     }
     largest
 }

@@ -19,13 +19,10 @@ fn gather(t: &[u8], a: usize, keys: &mut [u64], m: usize, left: usize) -> usize
         return m;
     }
     note_key(t, a, keys, m);
-    let n = table::children_of(t, a);
     let mut at = m + 1;
-    let mut k = 0;
-    while k < n {
-        let c = table::slot_of(t, a, k) as usize;
+    for k in 0..table::children_of(t, a) {
+        let c = table::child_of(t, a, k);
         at = gather(t, c, keys, at, left - 1);
-        k += 1;
     }
     at
 }

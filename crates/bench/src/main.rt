@@ -3,13 +3,15 @@
 // counted, and bytes read and written. What fails is told on standard error.
 #![tactic(auto)]
 
-ghost use Rattle.std.specs.Prelude.{◌+◌, ◌≤◌, ◌<◌, ◌^◌, ◌≡◌, true, length, take};
+ghost use Rattle.std.specs.Prelude.{◌-◌, ◌≤◌, ◌<◌, ◌≡◌, length, take, IfOk};
 ghost use Rattle.line.specs.Fits.{room_for};
 ghost use Rattle.command.specs.Command.{command_of, command_length};
 ghost use Rattle.bench.specs.Program.{places, Answer, answer_of, Reached, Says};
 
 use command::COMMAND;
+use line::Line;
 use std::io::Read;
+use std::{fmt, io};
 
 const TABLE: usize = 32768;
 
@@ -21,157 +23,125 @@ const LINE: usize = 5679;
 // The longest line of left-over bytes.
 const CUT: usize = 25;
 
-// Says on standard error what could not be done with the line or command of this number. Where that fails too, nobody
-// is left to tell.
-fn complain(rt: &impl Eprint, what: &str, number: u64, of: &str) {
-    let _ = eprint!(rt; "{what}{number}{of}");
+// Why the program ends before its input does: the command or the line of this number failed.
+#[derive(Clone, Copy)]
+enum Failure {
+    Reading(u64),
+    Writing(u64),
 }
 
-// Writes to standard output, as nothing else does: only what the program has to say after so many commands.
-fn print(rt: &(impl Print + Eprint), done: u64, bytes: &[u8]) -> bool
-    requires { (done + 1 < 2 ^ 64) × Says done bytes.now }
-{
-    if rt.write_all(bytes).is_ok() {
-        return true;
+impl fmt::Display for Failure {
+    fn fmt<W: fmt::Write>(&self, f: &mut fmt::Formatter<W>) -> fmt::Result {
+        match self {
+            Failure::Reading(number) => {
+                write!(f, "could not read command {number} from standard input")
+            }
+            Failure::Writing(number) => {
+                write!(f, "could not write line {number} to standard output")
+            }
+        }
     }
-    complain(
-        rt,
-        "bench: could not write line ",
-        done + 1,
-        " to standard output\n",
-    );
-    false
 }
 
-// Runs a command and puts its line, numbered behind the commands done, into the room lent; answers its length.
-fn answer(done: u64, input: &[u8], table: &mut [u8], list: &mut [u32], room: &mut [u8]) -> usize
-    requires { (done + 1 < 2 ^ 64) × (length list.old ≤ places) × (room_for places ≤ length room.old) }
-    ensures { (result ≤ length room.new) × ◌≡◌ {A = Answer}
-        (record { line = take result room.new; table = table.new; list = list.new })
-        (answer_of (done + 1) (command_of input.now table.old list.old)) }
+// Writes to standard output, as nothing else does: only what the program has to say in place of the line of this
+// number, with all commands before it done.
+fn print(rt: &impl Print, number: u64, bytes: &[u8]) -> Result<(), Failure>
+    requires { Says (number - 1) bytes.now }
 {
-    let r = command::run(input, table, list);
-    line::put_line(room, done + 1, r.refusal, r.count, r.found, list)
-}
-
-// Answers a command on standard output; answers whether to go on.
-fn respond(
-    rt: &(impl Print + Eprint),
-    done: u64,
-    input: &[u8],
-    table: &mut [u8; TABLE],
-    list: &mut [u32; PLACES],
-) -> bool
-    requires { (done + 1 < 2 ^ 64) × Reached done table.old list.old }
-    ensures { Reached (done + 1) table.new list.new }
-{
-    let mut room = [0u8; LINE];
-    let n = answer(done, input, table, list, &mut room);
-    print(rt, done, &room[..n])
+    rt.write_all(bytes).map_err(|_| Failure::Writing(number))
 }
 
 // Prints how many bytes were left over, if any were.
-fn print_cut(rt: &(impl Print + Eprint), done: u64, left: usize)
-    requires { (done + 1 < 2 ^ 64) × (left < command_length) }
+fn print_cut(rt: &impl Print, number: u64, left: usize) -> Result<(), Failure>
+    requires { left < command_length }
 {
     if left == 0 {
-        return;
+        return Ok(());
     }
     let mut room = [0u8; CUT];
-    let n = line::put_cut(&mut room, left as u64);
-    print(rt, done, &room[..n]);
+    let n = line::put_cut(&mut room, left as u64).unwrap();
+    print(rt, number, &room[..n])
 }
 
-// What reading came to: how many bytes are there, and whether it failed.
-#[derive(Clone, Copy)]
-struct Reading {
-    bytes: usize,
-    failed: bool,
+// The table and the list that commands work on.
+#[derive(Drop)]
+struct Bench {
+    table: [u8; TABLE],
+    list: [u32; PLACES],
 }
 
-// Reads once, behind the bytes that are there; answers how many came.
-fn read_more(from: &mut impl Read, input: &mut [u8], have: usize) -> Reading
-    requires { have ≤ length input.old }
-    ensures { have + result.bytes ≤ length input.old }
-{
-    let part = &mut input[have..];
-    match from.read(part) {
-        Ok(bytes) => Reading {
-            bytes,
-            failed: false,
-        },
-        Err(_) => Reading {
-            bytes: 0,
-            failed: true,
-        },
+impl Bench {
+    // Runs the command of this number and puts its line into the room lent; answers its length.
+    fn answer(&mut self, number: u64, input: &[u8], room: &mut [u8]) -> usize
+        requires { room_for places ≤ length room.old }
+        ensures { (result ≤ length room.new) × ◌≡◌ {A = Answer}
+            (record { line = take result room.new; table = self.new.table; list = self.new.list })
+            (answer_of number (command_of input.now self.old.table self.old.list)) }
+    {
+        let list = &mut self.list[..];
+        let answer = command::run(input, &mut self.table, list);
+        let counts = refusals::counts_in(answer);
+        let line = Line {
+            number,
+            refusal: refusals::told(answer),
+            count: counts.count,
+            found: counts.found,
+            cards: list,
+        };
+        line::put_line(room, &line).unwrap()
+    }
+
+    // Answers the command of this number on standard output.
+    fn respond(&mut self, rt: &impl Print, number: u64, input: &[u8]) -> Result<(), Failure>
+        requires { (1 ≤ number) × Reached (number - 1) self.old.table self.old.list }
+        ensures { Reached number self.new.table self.new.list }
+    {
+        let mut room = [0u8; LINE];
+        let n = self.answer(number, input, &mut room);
+        print(rt, number, &room[..n])
     }
 }
 
-// Reads until the record is full, the input ends or reading fails: at each turn so many bytes are there.
-fn read_record(from: &mut impl Read, input: &mut [u8]) -> Reading
-    ensures { result.bytes ≤ length input.old }
+// Reads until the record is full or the input ends, each time as many bytes as come; answers how many are there, which
+// `read_exact` would not tell.
+fn read_record(from: &mut impl Read, input: &mut [u8]) -> io::Result<usize>
+    ensures { IfOk result (λ n. n ≤ length input.old) }
 {
     let mut have = 0;
     while have < input.len() {
-        let more = read_more(from, input, have);
-        if more.failed {
-            return Reading {
-                bytes: have,
-                failed: true,
-            };
-        }
-        if more.bytes == 0 {
+        let more = from.read(&mut input[have..])?;
+        if more == 0 {
             break;
         }
-        have += more.bytes;
+        have += more;
     }
-    Reading {
-        bytes: have,
-        failed: false,
-    }
+    Ok(have)
 }
 
-// Reads a command, runs it and prints its line; answers whether to go on. Bytes that stand before a failure are not
-// cut: the input has not ended.
-fn step(
-    rt: &(impl Print + Eprint),
-    from: &mut impl Read,
-    done: u64,
-    table: &mut [u8; TABLE],
-    list: &mut [u32; PLACES],
-) -> bool
-    requires { (done + 1 < 2 ^ 64) × Reached done table.old list.old }
-    ensures { result ≡ true → Reached (done + 1) table.new list.new }
-{
-    let mut input = [0u8; COMMAND];
-    let got = read_record(from, &mut input);
-    if got.failed {
-        complain(
-            rt,
-            "bench: could not read command ",
-            done + 1,
-            " from standard input\n",
-        );
-        return false;
+// Reads commands, runs them and prints their lines, until the input ends. Bytes that stand before a failure are not
+// cut: the input has not ended. A proved loop has to end, and nothing says that the input does: it ends with the
+// command numbers, which no run uses up.
+fn run(rt: &impl Print, from: &mut impl Read) -> Result<(), Failure> {
+    let mut bench = Bench {
+        table: [0u8; TABLE],
+        list: [0u32; PLACES],
+    };
+    for done in 0..u64::MAX {
+        let number = done + 1;
+        let mut input = [0u8; COMMAND];
+        let got = read_record(from, &mut input).map_err(|_| Failure::Reading(number))?;
+        if got < COMMAND {
+            return print_cut(rt, number, got);
+        }
+        bench.respond(rt, number, &input)?;
     }
-    if got.bytes < COMMAND {
-        print_cut(rt, done, got.bytes);
-        return false;
-    }
-    respond(rt, done, &input, table, list)
+    Ok(())
 }
 
-// A proved loop has to end, and nothing says that the input does: it ends with the command numbers, which no run uses
-// up.
+// Where the failure can't be told either, nobody is left to tell.
 fn main(rt: HostRuntime) {
     let mut from = rt.stdin();
-    let mut table = [0u8; TABLE];
-    let mut list = [0u32; PLACES];
-    let mut done: u64 = 0;
-    while done < u64::MAX {
-        if !step(&rt, &mut from, done, &mut table, &mut list) {
-            return;
-        }
-        done += 1;
+    if let Err(failure) = run(&rt, &mut from) {
+        let _ = eprintln!(rt; "bench: {failure}");
     }
 }

@@ -1,2 +1,3 @@
 -- The bench program's commands.
 pub mod Command
+pub mod Operation

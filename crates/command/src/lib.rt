@@ -2,81 +2,90 @@
 #![tactic(auto)]
 
 ghost use Rattle.std.specs.Prelude.{◌≡◌, length};
+ghost use Rattle.refusals.specs.Told.{told, distances_in, found_in};
 ghost use Rattle.command.specs.Command.{Done, operation_of, command_of, command_length};
+ghost use Rattle.command.specs.Operation.{Decodes};
 
-use refusals::ARGUMENT;
+use refusals::{Found, Refusal};
 
 // The bytes of a command record.
 pub const COMMAND: usize = 48;
 
-// What a line of the program reports.
-#[derive(Clone, Copy)]
-pub struct Report {
-    pub refusal: u8,
-    pub count: u32,
-    pub found: u32,
+// What a command asks for.
+#[derive(Clone, Copy, Debug, PartialEq, Eq)]
+pub enum Operation {
+    Insert,
+    Delete,
+    Search,
+    Check,
 }
 
-fn told(refusal: u8, count: u32, found: u32) -> Report
-    ensures { (result.refusal ≡ refusal) × (result.count ≡ count) × (result.found ≡ found) }
-{
-    Report {
-        refusal,
-        count,
-        found,
+// By its number; any other is refused.
+impl TryFrom<u8> for Operation {
+    type Error = Refusal;
+
+    ghost try_from_gives = { Decodes };
+
+    fn try_from(number: u8) -> Result<Self, Refusal> {
+        match number {
+            1 => Ok(Operation::Insert),
+            2 => Ok(Operation::Delete),
+            3 => Ok(Operation::Search),
+            4 => Ok(Operation::Check),
+            _ => Err(Refusal::Argument),
+        }
     }
 }
 
 // Runs the operation of a whole record. Fields that it does not need are ignored.
-fn operate(command: &[u8], table: &mut [u8], list: &mut [u32]) -> Report
+fn operate(command: &[u8], table: &mut [u8], list: &mut [u32]) -> Result<Found, Refusal>
     requires { length command.now ≡ command_length }
     ensures { ◌≡◌ {A = Done}
         (record {
-          refusal = result.refusal;
-          count = result.count;
-          found = result.found;
+          refusal = told result;
+          count = distances_in result;
+          found = found_in result;
           table = table.new;
           list = list.new;
         })
         (operation_of command.now table.old list.old) }
 {
-    let operation = command[0];
     let kind = command[1];
     let arity = command[2];
-    let card = number::get_u32(command, 4);
-    let radius = number::get_u32(command, 8);
-    if operation == 1 {
-        let r = insert::insert(table, card, kind, arity, &command[16..COMMAND]);
-        return told(r.refusal, r.count, 0);
+    let card = number::get::<4, u32>(command, 4);
+    let radius = number::get::<4, u32>(command, 8);
+    let signature = &command[16..COMMAND];
+    match Operation::try_from(command[0])? {
+        Operation::Insert => {
+            let count = insert::insert(table, card, kind, arity, signature)?;
+            Ok(Found { count, found: 0 })
+        }
+        Operation::Delete => {
+            let count = delete::delete(table, card, arity)?;
+            Ok(Found { count, found: 0 })
+        }
+        Operation::Search => search::search(table, kind, signature, radius, list),
+        Operation::Check => {
+            soundness::check(table)?;
+            Ok(Found { count: 0, found: 0 })
+        }
     }
-    if operation == 2 {
-        let r = delete::delete(table, card, arity);
-        return told(r.refusal, r.count, 0);
-    }
-    if operation == 3 {
-        let r = search::search(table, kind, &command[16..COMMAND], radius, list);
-        return told(r.refusal, r.count, r.found);
-    }
-    if operation == 4 {
-        return told(soundness::check(table), 0, 0);
-    }
-    told(ARGUMENT, 0, 0)
 }
 
-// Runs a command; a record of another length is refused.
-pub fn run(command: &[u8], table: &mut [u8], list: &mut [u32]) -> Report
+// Runs a command, and answers what its line counts; a record of another length is refused.
+pub fn run(command: &[u8], table: &mut [u8], list: &mut [u32]) -> Result<Found, Refusal>
     ensures { ◌≡◌ {A = Done}
         (record {
-          refusal = result.refusal;
-          count = result.count;
-          found = result.found;
+          refusal = told result;
+          count = distances_in result;
+          found = found_in result;
           table = table.new;
           list = list.new;
         })
         (command_of command.now table.old list.old) }
 {
     if command.len() != COMMAND {
-        return told(ARGUMENT, 0, 0);
+        return Err(Refusal::Argument);
     }
     operate(command, table, list)
 }

@@ -10,7 +10,7 @@ use Rattle.admission.specs.Query.{known_change}
 use Rattle.refusals.specs.Limits.{most_children, known_arity}
 use Rattle.refusals.specs.Refusal.{ARGUMENT, ABSENT, CLOCK, first_of, done}
 use Rattle.refusals.specs.First.{any_holds, first_none, first_given, first_done}
-use Rattle.refusals.specs.Outcome.{Outcome, refused}
+use Rattle.refusals.specs.Outcome.{refused}
 use Rattle.table.specs.Record.{Record, record_of}
 use Rattle.table.specs.Table.{right_size, records_in, records_of, at}
 use Rattle.table.specs.Records.{records_length}
@@ -26,11 +26,6 @@ use Rattle.view.specs.Readable.{readable_formed, readable_shaped}
 use Rattle.removal.specs.Leaving.{Held}
 use Rattle.delete.specs.Delete.{clock_would_pass, deletion_tests, refusal_of, delete_of}
 use Rattle.delete.specs.Call.{refused_by, outcome_at}
-
--- outcomes of the same numbers are one
-pub same_refusal : {k j c : ℕ} (l : List ℕ) → k ≡ j → c ≡ 0
-    → ◌≡◌ {A = Outcome} (record { refusal = k; count = c; table = l }) (refused_by j l)
-same_refusal l p q i = record { refusal = p i; count = q i; table = l }
 
 -- ---- the arguments
 

@@ -3,9 +3,9 @@
 -- stay, and the depth theirs. So the bytes from which v has left are those in which the others wait (`plan_pending`).
 -- Assumes nothing.
 use Prim.Native.Nat.{ℕ, suc, ◌+◌, ◌-◌, ◌≤◌, ◌<◌}
-use Rattle.std.specs.Prelude.{◌≡◌, true, ltb, get_or, set, take, drop}
+use Rattle.std.specs.Prelude.{◌≡◌, true, ltb, get_or, set, take, drop, Option, Some, None, IsSome}
 use Rattle.std.proofs.Math.Path.{sym, ap}
-use Rattle.std.proofs.Common.{subst, ◌∙◌, arith, length-take, length-drop, take_all}
+use Rattle.std.proofs.Common.{subst, ◌∙◌, arith, rules, length-take, length-drop, take_all}
 use Rattle.std.proofs.Math.Bool.{false}
 use mathlib.Core.List.{List, map}
 use Rattle.std.proofs.Math.ListN.{length}
@@ -14,7 +14,7 @@ use Rattle.number.specs.Frame.{Bytes}
 use Rattle.order.specs.Order.{in_order}
 use Rattle.admission.specs.Query.{known_change}
 use Rattle.refusals.specs.Limits.{most_records, most_children, last_timestamp}
-use Rattle.refusals.specs.Refusal.{CLOCK, done}
+use Rattle.refusals.specs.Refusal.{CLOCK, first_of, done}
 use Rattle.refusals.specs.Outcome.{Outcome, refused}
 use Rattle.table.specs.Record.{Record, record_of, free, children, largest_table}
 use Rattle.table.specs.Table.{records_of, records_in, at}
@@ -24,15 +24,16 @@ use Rattle.table.specs.Stands.{Stands, Walkable, right_are, are_whole, whole_are
 use Rattle.judge.specs.WellFormed.{WellFormed}
 use Rattle.survey.specs.declared.Findings.{Findings}
 use Rattle.survey.specs.Survey.{used_in, root_of, kind_of, slot_of_card, largest_timestamp}
-use Rattle.admission.specs.declared.Admitted.{Admitted}
-use Rattle.admission.specs.Admission.{Admits, admitted_readable}
+use Rattle.survey.specs.Answers.{Answers, Tells, tells_some}
+use Rattle.admission.specs.Admission.{admission_tests, admitted_readable}
 use Rattle.tree.specs.View.{under}
 use Rattle.view.specs.Readable.{formed_walkable}
+use Rattle.view.specs.Survey.{root_of_is}
 use Rattle.view.specs.Freed.{freed_at}
 use Rattle.placing.specs.Changed.{changed}
 use Rattle.placing.specs.Hangable.{leaves}
 use Rattle.removal.specs.Removal.{leaving, removed, unhung}
-use Rattle.removal.specs.Leaving.{Held}
+use Rattle.removal.specs.Leaving.{Held, held_some}
 use Rattle.removal.specs.Lent.{held_stands}
 use Rattle.age.specs.Key.{key_of, slot_in}
 use Rattle.back.specs.Loop.Pending.{Pending, rest_back, rest_back_over}
@@ -59,20 +60,20 @@ use Rattle.delete.proofs.Stays.{
 
 -- the card stands in a table that was admitted
 pub present_deletable :
-    (l : List ℕ) (card arity : ℕ) (r : Admitted)
-    → Admits l r
-    → r.refusal ≡ done
+    (l : List ℕ) (card arity : ℕ) (found : Findings)
+    → first_of (admission_tests l) ≡ done
+    → Answers (records_in l) (record_of l) found
     → known_change card arity ≡ true
     → (v : ℕ)
     → v ≡ slot_of_card (records_in l) (record_of l) card
     → v < records_in l
-    → Deletable l v r.found
-present_deletable l card arity r a none right v e h =
-    let ok = admitted_readable l (sym a.refusal_is ∙ none) in
+    → Deletable l v found
+present_deletable l card arity found none answers right v e h =
+    let ok = admitted_readable l none in
     record {
       whole = are_whole l (records_in l) (right_are l ok.size);
       held = rw e (present_held l card arity ok right (omega (arith, h, e)));
-      answers = a.answers none;
+      answers = answers;
     }
 
 module _ {l : List ℕ} {v : ℕ} {found : Findings} (d : Deletable l v found) where
@@ -101,6 +102,17 @@ module _ {l : List ℕ} {v : ℕ} {found : Findings} (d : Deletable l v found) w
 
   pub deletable_size : length l ≤ largest_table
   deletable_size = are_large l (records_in l) (whole_are l d.whole) deletable_few_records
+
+  -- v is used, so a root is told
+  pub deletable_rooted : IsSome found.root
+  deletable_rooted = go found.root d.answers.root
+    where
+      go : (o : Option ℕ) → Tells (records_in l) (root_of (records_in l) (record_of l)) o → IsSome o
+      go (Some a) t = search rules
+      go None t =
+          let rows = records_of l in
+          let below = (root_of_is (length rows) (at rows) d.held.well_formed (held_some d.held)).0 in
+          absurd (omega (arith, t.0, below, of_rows root_of, records_length l))
 
   under_is : slots_under (record_of l) found.used v ≡ leaving (records_of l) v
   unfolding leaving
@@ -221,9 +233,10 @@ module _ {l : List ℕ} {v : ℕ} {found : Findings} {keys : List ℕ} {last : �
     kind_is : found.kind ≡ kind_of (length (records_of l)) (at (records_of l))
     kind_is = plan.deletable.answers.kind ∙ of_rows plan.deletable kind_of
 
-    root_is : 1 ≤ used_in (length (records_of l)) (at (removed (records_of l) v))
-        → found.root ≡ root_of (length (records_of l)) (at (removed (records_of l) v))
-    root_is some = plan.deletable.answers.root ∙ of_rows plan.deletable root_of ∙ staying_root was some
+    root_is : (root : ℕ) → found.root ≡ Some root → 1 ≤ used_in (length (records_of l)) (at (removed (records_of l) v))
+        → root ≡ root_of (length (records_of l)) (at (removed (records_of l) v))
+    root_is root told some =
+        (tells_some root plan.deletable.answers.root told).0 ∙ of_rows plan.deletable root_of ∙ staying_root was some
 
     depth_is : found.used - length keys ≡ used_in (length (records_of l)) (at (removed (records_of l) v))
     depth_is =
@@ -232,15 +245,17 @@ module _ {l : List ℕ} {v : ℕ} {found : Findings} {keys : List ℕ} {last : �
         ∙ staying_used was
 
     pub plan_pending :
-        Pending t (map slot_in (later_keys keys)) found.kind arity found.root (found.used - length keys) last
-    plan_pending =
+        {root : ℕ}
+        → found.root ≡ Some root
+        → Pending t (map slot_in (later_keys keys)) found.kind arity root (found.used - length keys) last
+    plan_pending {root} told =
         let same : records_in t ≡ length (records_of l) = in_same l t long ∙ sym (records_length l) in
         record {
           whole = whole_same l t long plan.deletable.whole;
           to_8 = to_8;
           turn =
               rw (slots_are, left, same)
-              (alone_turn was kind_is (λ some. root_is (omega (arith, some, depth_is))) depth_is plan.last_is
+              (alone_turn was kind_is (λ some. root_is root told (omega (arith, some, depth_is))) depth_is plan.last_is
               (omega (arith, fine, plan_count)));
         }
 

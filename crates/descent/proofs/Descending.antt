@@ -1,42 +1,39 @@
--- The descent's two loops: what holds at each turn of the walk (`Walking`) and of the scan (`Scanning`), and what a
--- turn of the walk comes to in the bytes (`turn`). The key idea: a raised radius changes neither children nor
--- signatures, so what is left of the walk is the definition's at the present slot, with the radii raised so far.
--- Assumes nothing.
-use Prim.Native.Nat.{ℕ, suc, ◌+◌, ◌*◌, ◌-◌, ◌≤◌, ◌<◌}
+-- The descent's loop: what holds at each turn of the walk (`Walking`), and what a turn comes to in the bytes: its end
+-- at a record with no child (`walk_leaf`), or by the nearest child its end (`walk_ends`) or the next record
+-- (`walk_on`). The key idea: a raised radius changes neither children nor signatures, so what is left of the walk is
+-- the definition's at the present slot, with the radii raised so far. Assumes nothing.
+use Prim.Native.Nat.{ℕ, suc, ◌+◌, ◌*◌, ◌-◌, ◌≤◌}
+use Rattle.std.specs.Prelude.{Option, Some, None, is_some, unwrap_or}
 use mathlib.Core.Bool.{Bool, true, false, ◌&&◌, ◌||◌, false≢true}
-use mathlib.Core.Path.{◌≡◌, refl, sym, ap, ap₂, ◌∙◌}
+use mathlib.Core.Path.{◌≡◌, refl, sym, ap, ap₂, ◌∙◌, subst}
 use mathlib.Core.List.{List, [], ◌∷◌}
 use native.Mathlib.Omega.{arith}
 use native.Mathlib.Decide.{ℕ_discrete}
 use lib.Dec.{ltb, eqb}
-use lib.ListN.{length, get_or, set, take, drop}
+use lib.ListN.{length, set, take}
 use borrow.Author.Tests.{eqb-false}
 use Rattle.places.specs.Choice.{pick}
-use Rattle.number.specs.Frame.{Bytes}
 use Rattle.refusals.specs.Limits.{most_children}
-use Rattle.distance.specs.Laws.{farthest}
-use Rattle.distance.specs.Signature.{Fit}
-use Rattle.distance.specs.Kind.{apart, apart_distance}
-use Rattle.table.specs.Record.{Record, record_of, slot, children}
+use Rattle.distance.specs.Kind.{apart}
+use Rattle.table.specs.Record.{Record, record_of, children}
 use Rattle.table.specs.Table.{records_of, at}
 use Rattle.table.specs.Same.{slots_length}
 use Rattle.table.specs.Records.{records_at}
-use Rattle.table.specs.Fitting.{record_fits}
 use Rattle.writing.specs.Laws.{Became}
+use Rattle.tree.specs.Slots.{◌∈◌}
+use Rattle.tree.specs.View.{View}
 use Rattle.tree.specs.View.{away as away'}
+use Rattle.tree.specs.Insert.{nearest}
+use Rattle.tree.proofs.Insert.Path.{nearest_∈}
 use Rattle.view.specs.View.{view_of}
-use Rattle.view.specs.Children.{children_length, children_slot}
+use Rattle.view.specs.Children.{children_length, children_at}
 use Rattle.newcomer.specs.Newcomer.{raised}
 use Rattle.newcomer.specs.Kept.{Still, still_self, still_raised}
+use Rattle.descent.specs.declared.Near.{Near}
 use Rattle.descent.specs.Descent.{Descended, descent, descended}
 use Rattle.table.specs.Stands.{Stands, Walkable, stands_same, walkable_same}
-use Rattle.descent.specs.Loop.DescentTurn.{Near, near, scanned, nearest_of}
-use Rattle.descent.specs.Loop.DescentTurn.{scanned_more, scanned_end, scanned_nearest}
-use Rattle.descent.specs.Loop.DescentTurn.{lifted, descended_turn}
-
--- above every distance
-abbrev pub farther : ℕ
-farther = farthest + 1
+use Rattle.descent.specs.Loop.Nearest.{scanned, scanned_none, nearest_of, scanned_nearest}
+use Rattle.descent.specs.Loop.DescentTurn.{lifted, descended_leaf, descended_turn}
 
 -- ---- what holds at each turn
 
@@ -50,70 +47,9 @@ pub record Walking (l₀ : List ℕ) (kind : ℕ) (x : List ℕ) (arity root dep
   pub less : left ≤ depth
   pub small : count + most_children * left ≤ 1 + most_children * depth
   pub away_is : away ≡ apart kind (record_of l a).readings x
-  pub near : away ≤ farthest
   pub rest :
       descended (apart kind) x arity (records_of l) left a count
       ≡ descended (apart kind) x arity (records_of l₀) depth root 1
-
--- of the first k children of slot a, `best` is the nearest, at the distance e
-pub record Scanning (kind : ℕ) (x : List ℕ) (l : List ℕ) (a n best e k : ℕ) : Type 0 where
-  pub walkable : Walkable l
-  pub here : Stands l a
-  pub count_is : n ≡ (record_of l a).count
-  pub passed : k ≤ n
-  pub stands : Stands l best
-  pub small : e ≤ farther
-  pub rest :
-      scanned (λ c. apart kind (record_of l c).readings x) best e (drop k (children (record_of l a)))
-      ≡ scanned (λ c. apart kind (record_of l c).readings x) a farther (children (record_of l a))
-
--- ---- the scan
-
-module _ {kind : ℕ} {x l : List ℕ} {a n best e k : ℕ} (s : Scanning kind x l a n best e k) where
-  fits : (record_of l a).count ≤ length (record_of l a).slots
-  fits = omega (arith, s.walkable.few a s.here, slots_length l a)
-
-  pub scanning_child : k < n → (k < most_children) × Stands l (slot (record_of l a) k)
-  scanning_child h = (
-    omega (arith, s.walkable.few a s.here, s.count_is, h),
-    s.walkable.stand a k s.here (omega (arith, s.count_is, h)),
-  )
-
-  -- a turn: child k at the distance f is nearer, or it is not
-  pub scanning_more :
-      (c f best' e' : ℕ)
-      → k < n
-      → c ≡ slot (record_of l a) k
-      → f ≡ apart kind (record_of l c).readings x
-      → f ≤ farthest
-      → best' ≡ pick (ltb f e) c best
-      → e' ≡ pick (ltb f e) f e
-      → Scanning kind x l a n best' e' (k + 1)
-  scanning_more c f best' e' h ec ef small eb ee =
-      let g : ℕ → ℕ = λ i. apart kind (record_of l i).readings x in
-      let children-count = children_length (record_of l a) fits in
-      let inside : k < (record_of l a).count = omega (arith, s.count_is, h) in
-      let at-k : get_or (children (record_of l a)) k 0 ≡ c = children_slot (record_of l a) fits k inside ∙ sym ec in
-      record {
-        walkable = s.walkable;
-        here = s.here;
-        count_is = s.count_is;
-        passed = omega arith;
-        stands = rw eb (one_stands (ltb f e));
-        small = rw ee (bounded (ltb f e));
-        rest =
-            rw (eb, ee, ef)
-            (sym (rw at-k at (scanned_more g best e k (children (record_of l a)) (omega (arith, children-count))))
-            ∙ s.rest);
-      }
-    where
-      one_stands : (b : Bool) → Stands l (pick b c best)
-      one_stands true = rw ec (scanning_child h).1
-      one_stands false = s.stands
-
-      bounded : (b : Bool) → pick b f e ≤ farther
-      bounded true = omega arith
-      bounded false = s.small
 
 -- ---- a turn of the walk
 
@@ -140,7 +76,7 @@ module _ {l₀ x l : List ℕ} {kind arity root depth a away left count : ℕ}
     | no ne ↦ rw (b.elsewhere s ne) (still_self (record_of l s))
   ]
 
-  raised_walkable : Walkable m
+  pub raised_walkable : Walkable m
   raised_walkable = walkable_same b.same_length (λ s. (still s).count) (λ s. (still s).slots) w.walkable
 
   pub still_here : Stands m a
@@ -167,102 +103,133 @@ module _ {l₀ x l : List ℕ} {kind arity root depth a away left count : ℕ}
   far_same : (λ c. apart kind (record_of m c).readings x) ≡ away' d (view_of (at rows)) x
   far_same i c = apart kind (row_readings c i) x
 
-  -- the scan begins
-  pub scanning : (n : ℕ) → n ≡ (record_of m a).count → Scanning kind x m a n a farther 0
-  scanning n e =
-      record {
-        walkable = raised_walkable;
-        here = still_here;
-        count_is = e;
-        passed = omega arith;
-        stands = still_here;
-        small = omega arith;
-        rest = refl;
-      }
-
   pub few : (record_of m a).count ≤ most_children
   few = raised_walkable.few a still_here
 
-  -- the scan is over
-  module _ (bytes : Bytes m) (fit : Fit x) {n best e k : ℕ} (s : Scanning kind x m a n best e k) (over : n ≤ k) where
-    abbrev pub test : Bool
-    test = (eqb n 0 || eqb (left - 1) 0) || (ltb away e && ltb n arity)
+  -- the nearest child is found, if there is one
+  module _ {n : ℕ} {o : Option Near} (count_is : n ≡ (record_of m a).count)
+      (scan : o ≡ scanned (λ c. apart kind (record_of m c).readings x) None (children (record_of m a))) where
+    children_n : n ≡ length (children (at rows a))
+    children_n =
+        count_is
+        ∙ sym (children_length (record_of m a) (omega (arith, few, slots_length m a)))
+        ∙ ap length row_children
 
-    count_fits : (record_of m a).count ≤ length (record_of m a).slots
-    count_fits = omega (arith, few, slots_length m a)
+    abbrev view : View (List ℕ)
+    view = view_of (at rows)
 
-    count_n : n ≡ length (children (record_of m a))
-    count_n = s.count_is ∙ sym (children_length (record_of m a) count_fits)
+    scan_of : (cs : List ℕ) → children (at rows a) ≡ cs → o ≡ scanned (away' d view x) None cs
+    scan_of cs h = scan ∙ ap₂ (λ (g : ℕ → ℕ) (is : List ℕ). scanned g None is) far_same (row_children ∙ h)
 
-    found :
-        (c : ℕ) (cs : List ℕ)
-        → children (at rows a) ≡ c ∷ cs
-        → near best e ≡ nearest_of d (view_of (at rows)) x c cs
-    found c cs h =
-        let far = (apart_distance kind).at_most (record_of m c).readings x (record_fits m c bytes).readings fit in
-        let small : away' d (view_of (at rows)) x c < farther =
-        omega (arith, far, ap (λ (r : List ℕ). d r x) (row_readings c)) in
-        let g : ℕ → ℕ = λ i. apart kind (record_of m i).readings x in
-        sym (scanned_end g best e k (children (record_of m a)) (omega (arith, count_n)))
-        ∙ s.rest
-        ∙ ap₂ (λ (g : ℕ → ℕ) (is : List ℕ). scanned g a farther is) far_same (row_children ∙ h)
-        ∙ scanned_nearest d (view_of (at rows)) x a farther c cs small
-
-    -- where the walk ends, and where it goes on
+    -- where the walk ends
     abbrev ended : Descended
     ended = descent (records_of m) a (count + n)
 
-    abbrev onward : Descended
-    onward = descended d x arity (records_of m) (left - 1) best (count + n)
+    abbrev ends : Type 0
+    ends = descent (records_of m) a (count + n) ≡ descended d x arity (records_of l₀) depth root 1
 
-    turn :
-        descended d x arity rows left a count
-        ≡ pick test ended onward
-    turn =
-        let here = records_at l w.walkable.whole a in
-        let level : left ≡ suc (left - 1) = omega (arith, w.some) in
-        let at_a : away ≡ d (at rows a).readings x = w.away_is ∙ ap (λ (r : Record). d r.readings x) (sym here) in
-        ap (λ (i : ℕ). descended d x arity rows i a count) level
-        ∙ descended_turn d x arity rows a count n best e (count_n ∙ ap length row_children) found (left - 1)
-        ∙ ap₂
-        (λ (i : ℕ) (rs : List Record).
-        pick
-        ((eqb n 0 || eqb (left - 1) 0) || (ltb i e && ltb n arity))
-        (descent rs a (count + n))
-        (descended d x arity rs (left - 1) best (count + n)))
-        (sym at_a)
-        (sym rows_lifted)
+    level : left ≡ suc (left - 1)
+    level = omega (arith, w.some)
 
-    pub walk_ends : test ≡ true
-        → descent (records_of m) a (count + n) ≡ descended d x arity (records_of l₀) depth root 1
-    walk_ends y =
-        sym (turn ∙ ap (λ (t : Bool). pick t ended onward) y) ∙ w.rest
+    from_here :
+        descended d x arity rows (suc (left - 1)) a count ≡ descended d x arity (records_of l₀) depth root 1
+    from_here = ap (λ (i : ℕ). descended d x arity rows i a count) (sym level) ∙ w.rest
 
-    best_away : (cs : List ℕ) → children (at rows a) ≡ cs → (n ≡ 0 → ⊥) → e ≡ apart kind (record_of m best).readings x
-    best_away [] h some = absurd (some (count_n ∙ ap length (row_children ∙ h)))
-    best_away (c ∷ cs) h some =
-        let f = found c cs h in
-        ap (λ (p : Near). p.away) f
-        ∙ ap (λ (i : ℕ). away' d (view_of (at rows)) x i) (sym (ap (λ (p : Near). p.slot) f))
-        ∙ ap (λ (r : List ℕ). d r x) (sym (row_readings best))
+    -- a record with no child
+    pub walk_leaf : o ≡ None → ends
+    walk_leaf none = go (children (at rows a)) refl
+      where
+        go : (cs : List ℕ) → children (at rows a) ≡ cs → ends
+        go [] h =
+            ap (λ (rs : List Record). descent rs a (count + n)) rows_lifted
+            ∙ sym (descended_leaf d x arity rows a count n children_n (left - 1) h)
+            ∙ from_here
+        go (c ∷ cs) h =
+            absurd (false≢true (ap is_some (sym none ∙ scan_of (c ∷ cs) h ∙ scanned_nearest d view x c cs)))
 
-    pub walk_on : test ≡ false → Walking l₀ kind x arity root depth m best e (left - 1) (count + n)
-    walk_on y =
-        let y1 = (or_false (eqb n 0 || eqb (left - 1) 0) (ltb away e && ltb n arity) y).0 in
-        let y2 = or_false (eqb n 0) (eqb (left - 1) 0) y1 in
-        let some : n ≡ 0 → ⊥ = eqb-false n 0 y2.0 in
-        let more : left - 1 ≡ 0 → ⊥ = eqb-false (left - 1) 0 y2.1 in
-        let far = best_away (children (at rows a)) refl some in
-        record {
-          walkable = s.walkable;
-          same_length = b.same_length ∙ w.same_length;
-          here = s.stands;
-          some = omega arith;
-          less = omega (arith, w.less);
-          small = omega (arith, w.small, w.some, few, s.count_is);
-          away_is = far;
-          near =
-              let fits = (record_fits m best bytes).readings in
-              rw far ((apart_distance kind).at_most (record_of m best).readings x fits fit);
-          rest = sym (turn ∙ ap (λ (t : Bool). pick t ended onward) y) ∙ w.rest;
-        }
+    -- one with children, of which q is the nearest
+    module _ {q : Near} (some : o ≡ Some q) where
+      abbrev test : Bool
+      test = eqb (left - 1) 0 || (ltb away q.away && ltb n arity)
+
+      abbrev onward : Descended
+      onward = descended d x arity (records_of m) (left - 1) q.slot (count + n)
+
+      -- what is known of q
+      record Found : Type 0 where
+        first : ℕ
+        others : List ℕ
+        children_are : children (at rows a) ≡ first ∷ others
+        q_is : q ≡ nearest_of d view x first others
+
+      found : Found
+      found = go (children (at rows a)) refl
+        where
+          go : (cs : List ℕ) → children (at rows a) ≡ cs → Found
+          go [] h = absurd (false≢true (ap is_some (sym (scanned_none (away' d view x)) ∙ sym (scan_of [] h) ∙ some)))
+          go (c ∷ cs) h =
+              record {
+                first = c;
+                others = cs;
+                children_are = h;
+                q_is =
+                    ap (λ (p : Option Near). unwrap_or p q)
+                    (sym some ∙ scan_of (c ∷ cs) h ∙ scanned_nearest d view x c cs);
+              }
+
+      turn : descended d x arity (records_of l₀) depth root 1 ≡ pick test ended onward
+      turn =
+          let f = found in
+          let here = records_at l w.walkable.whole a in
+          let at_a : away ≡ d (at rows a).readings x = w.away_is ∙ ap (λ (r : Record). d r.readings x) (sym here) in
+          sym from_here
+          ∙ descended_turn d x arity rows a count n children_n f.first f.others f.children_are q.slot q.away f.q_is
+          (left - 1)
+          ∙ ap₂
+          (λ (i : ℕ) (rs : List Record).
+          pick
+          (eqb (left - 1) 0 || (ltb i q.away && ltb n arity))
+          (descent rs a (count + n))
+          (descended d x arity rs (left - 1) q.slot (count + n)))
+          (sym at_a)
+          (sym rows_lifted)
+
+      pub walk_ends : eqb (left - 1) 0 || (ltb away q.away && ltb n arity) ≡ true → ends
+      walk_ends y = sym (turn ∙ ap (λ (t : Bool). pick t ended onward) y)
+
+      -- the nearest child stands, as each child does
+      next_child : q.slot ∈ children (record_of m a)
+      next_child =
+          let f = found in
+          let child = subst (λ (is : List ℕ). nearest d view x f.first f.others ∈ is)
+          (sym (row_children ∙ f.children_are)) (nearest_∈ d view x f.first f.others) in
+          subst (λ (i : ℕ). i ∈ children (record_of m a)) (sym (ap (λ (p : Near). p.slot) f.q_is)) child
+
+      next_stands : Stands m q.slot
+      next_stands =
+          let z = children_at (record_of m a) (omega (arith, few, slots_length m a)) q.slot next_child in
+          rw (← z.2) (raised_walkable.stand a z.0 still_here z.1)
+
+      next_away : q.away ≡ apart kind (record_of m q.slot).readings x
+      next_away =
+          let f = found in
+          ap (λ (p : Near). p.away) f.q_is
+          ∙ ap (λ (i : ℕ). away' d view x i) (sym (ap (λ (p : Near). p.slot) f.q_is))
+          ∙ ap (λ (r : List ℕ). d r x) (sym (row_readings q.slot))
+
+      pub walk_on :
+          eqb (left - 1) 0 || (ltb away q.away && ltb n arity) ≡ false
+          → Walking l₀ kind x arity root depth m q.slot q.away (left - 1) (count + n)
+      walk_on y =
+          let y1 = or_false (eqb (left - 1) 0) (ltb away q.away && ltb n arity) y in
+          let more : left - 1 ≡ 0 → ⊥ = eqb-false (left - 1) 0 y1.0 in
+          record {
+            walkable = raised_walkable;
+            same_length = b.same_length ∙ w.same_length;
+            here = next_stands;
+            some = omega arith;
+            less = omega (arith, w.less);
+            small = omega (arith, w.small, w.some, few, count_is);
+            away_is = next_away;
+            rest = sym (turn ∙ ap (λ (t : Bool). pick t ended onward) y);
+          }

@@ -1,2 +1,2 @@
--- What the proof of the descent cites.
+-- What the proofs of the functions cite.
 mod Descending

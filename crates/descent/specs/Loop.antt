@@ -1,2 +1,3 @@
--- What the descent's loop needs besides its definition.
+-- What the descent's loops need besides its definition.
+pub mod Nearest
 pub mod DescentTurn

@@ -25,7 +25,7 @@ pub enum Seat {
 fn start(key: u32) -> usize
     ensures { (result ≡ start_of key) × (result < cell_count) }
 {
-    ((key as u64) * 2654435769 / 1048576) as usize % CELLS
+    (u64::from(key) * 2654435769 / 1048576) as usize % CELLS
 }
 
 // Seats a key in the first empty one of its cells. At each turn the d cells passed hold other keys.
@@ -34,8 +34,7 @@ pub fn seat_key(cells: &mut [u32; CELLS], key: u32) -> Seat
     ensures { record { seat = result; cells = cells.new } ≡ seated cells.old key }
 {
     let first = start(key);
-    let mut d = 0;
-    while d < PROBES {
+    for d in 0..PROBES {
         let at = (first + d) % CELLS;
         let cell = cells[at];
         if cell == 0 {
@@ -45,25 +44,23 @@ pub fn seat_key(cells: &mut [u32; CELLS], key: u32) -> Seat
         if cell == key {
             return Seat::Seen;
         }
-        d += 1;
     }
     Seat::Crowded
 }
 
-// Are the keys all different, 0 aside? By sorting: the first m kept are those of the first i keys that are not 0.
+// Are the keys all different, 0 aside? By sorting: at each turn the first m kept are those of the keys so far that are
+// not 0.
 pub fn by_order(keys: &[u32]) -> bool
     requires { length keys.now ≤ most_records }
     ensures { result ≡ distinct_to (length keys.now) (λ i. get_or keys.now i 0) }
 {
     let mut kept = [0u64; RECORDS];
-    let mut room = [0u64; RECORDS];
     let mut m = 0;
-    for i in 0..keys.len() {
-        let key = keys[i];
+    for &key in keys {
         if key != 0 {
-            kept[m] = key as u64;
+            kept[m] = u64::from(key);
             m += 1;
         }
     }
-    order::all_different(&mut kept[..m], &mut room)
+    order::all_different(&mut kept[..m])
 }

@@ -16,6 +16,7 @@ use Rattle.table.specs.Stands.{are_whole, right_are, whole_same}
 use Rattle.table.specs.RoundTrip.{bytes_back}
 use Rattle.survey.specs.declared.Findings.{Findings}
 use Rattle.survey.specs.Answers.{Answers}
+use Rattle.survey.specs.Survey.{lowest_free}
 use Rattle.refusals.specs.Refusal.{done}
 use Rattle.placing.specs.Place.{placed}
 use Rattle.newcomer.specs.Newcomer.{Newcomer, newcomer}
@@ -33,31 +34,30 @@ module _ (l : List ℕ) (card kind arity : ℕ) (s : List ℕ) where
   -- ---- refused
 
   pub ends_refused :
-      (k r c : ℕ)
-      → refusal_of l card kind arity s ≡ k
+      (k : ℕ)
+      → k ≡ refusal_of l card kind arity s
       → (k ≡ done → ⊥)
-      → r ≡ k
-      → c ≡ 0
-      → ◌≡◌ {A = Outcome} (record { refusal = r; count = c; table = l }) (insert_of l card kind arity s)
+      → ◌≡◌ {A = Outcome} (record { refusal = k; count = 0; table = l }) (insert_of l card kind arity s)
   unfolding insert_of refused
-  ends_refused k r c e ne er ec = rw (e, ne_eqb k done ne, er, ec)
+  ends_refused k e ne = rw (← e, ne_eqb k done ne)
 
   -- ---- placed
 
   module _ (none : refusal_of l card kind arity s ≡ done) {f : Findings} (answers : Answers n (record_of l) f)
-      (bytes : Bytes s) (y : List ℕ) (read : y ≡ readings_at s 0) where
+      (bytes : Bytes s) (y : List ℕ) (read : y ≡ readings_at s 0)
+      (slot : ℕ) (lowest : slot ≡ lowest_free n (record_of l)) where
     abbrev x : Newcomer
     x = newcomer card kind y
 
     same_comer : comer card kind s ≡ x
     same_comer = ap (newcomer card kind) (sym read)
 
-    pub found_placeable : Placeable l f x arity
+    pub found_placeable : Placeable l slot f x arity
     found_placeable =
         record {
           answers = answers;
           size = (accepted_readable l card kind arity s none).size;
-          ready = rw (answers.lowest, ← same_comer) (accepted_ready l card kind arity s none);
+          ready = rw (lowest, ← same_comer) (accepted_ready l card kind arity s none);
           fit = rw read (readings_fit s 0 bytes);
           clock = rw answers.largest (accepted_clock l card kind arity s none);
         }
@@ -66,7 +66,7 @@ module _ (l : List ℕ) (card kind arity : ℕ) (s : List ℕ) where
         (j : List ℕ) (r : ℕ)
         → Bytes j
         → length j ≡ length l
-        → leaves j r ≡ placed (apart kind) arity f.lowest x (records_of l)
+        → leaves j r ≡ placed (apart kind) arity slot x (records_of l)
         → ◌≡◌ {A = Outcome} (record { refusal = done; count = r; table = j }) (insert_of l card kind arity s)
     unfolding insert_of changed inserted
     ends_placed j r bytes-j long e =
@@ -76,7 +76,7 @@ module _ (l : List ℕ) (card kind arity : ℕ) (s : List ℕ) where
         e
         ∙ ap₂
         (λ (i : ℕ) (z : Newcomer). placed (apart kind) arity i z (records_of l))
-        answers.lowest
+        lowest
         (sym same_comer) in
         ap (λ (k : List ℕ). record { refusal = done; count = r; table = k }) (sym (bytes_back j bytes-j even))
         ∙ ap changed p

@@ -66,7 +66,7 @@ module _ (R : ℕ → Record) where
       used_more n
       ∙ omega (arith, ap (λ (t : Bool). pick {A = ℕ} t 1 0) (lt-leb 1 (R n).card (omega arith)))
 
-  used_grows : (m n : ℕ) → m ≤ n → used_in m R ≤ used_in n R
+  pub used_grows : (m n : ℕ) → m ≤ n → used_in m R ≤ used_in n R
   unfolding used_in
   used_grows m n h = count_grows m n (λ s. used (R s)) h
 

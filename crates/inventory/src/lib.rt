@@ -4,5 +4,5 @@
 mod all;
 mod one;
 
-pub use all::{Listed, cards};
-pub use one::{Told, card};
+pub use all::cards;
+pub use one::card;

@@ -1,63 +1,40 @@
 // What one card was stored with: the call, with its refusals.
 ghost use Rattle.std.specs.Prelude.{◌≡◌};
+ghost use Rattle.refusals.specs.Told.{told, count_in};
 ghost use Rattle.table.specs.Record.{record_of};
 ghost use Rattle.table.specs.Stands.{Stands};
 ghost use Rattle.inventory.specs.Card.{outcome, one_card_of};
 ghost use Rattle.inventory.specs.Tests.{telling_at};
 
+use refusals::Refusal;
 use refusals::limit::SIGNATURE;
-use refusals::{ABSENT, ARGUMENT, DONE, SHORT};
 use table::RECORD;
 
-// What the call returns: 0 or the refusal's number, and the card's kind.
-#[derive(Clone, Copy)]
-pub struct Told {
-    pub refusal: u8,
-    pub kind: u8,
-}
-
-fn refused(refusal: u8) -> Told
-    ensures { (result.refusal ≡ refusal) × (result.kind ≡ 0) }
-{
-    Told {
-        refusal: refusal,
-        kind: 0,
-    }
-}
-
 // What the record in slot s was stored with, if the row has room for it.
-fn tell(t: &[u8], s: usize, row: &mut [u8]) -> Told
+fn tell(t: &[u8], s: usize, row: &mut [u8]) -> Result<u8, Refusal>
     requires { Stands t.now s }
-    ensures { outcome result.refusal result.kind row.new
+    ensures { outcome (told result) (count_in result) row.new
         ≡ telling_at (record_of t.now s) row.old }
 {
     if row.len() < SIGNATURE {
-        return refused(SHORT);
+        return Err(Refusal::Short);
     }
     writing::put_readings(row, 0, table::signature_of(t, s));
-    Told {
-        refusal: DONE,
-        kind: table::kind_of(t, s),
-    }
+    Ok(table::kind_of(t, s))
 }
 
 // Tells the card's kind, and puts its signature into the row's first 32 bytes; later bytes stay. A refused call leaves
 // the row.
-pub fn card(t: &[u8], card: u32, row: &mut [u8]) -> Told
-    ensures { outcome result.refusal result.kind row.new
+pub fn card(t: &[u8], card: u32, row: &mut [u8]) -> Result<u8, Refusal>
+    ensures { outcome (told result) (count_in result) row.new
         ≡ one_card_of t.now card row.old }
 {
-    let refusal = admission::admit(t).refusal;
-    if refusal != DONE {
-        return refused(refusal);
-    }
+    admission::admit(t)?;
     if card == 0 {
-        return refused(ARGUMENT);
+        return Err(Refusal::Argument);
     }
-    let n = t.len() / RECORD;
-    let s = survey::slot_of_card(t, n, card);
-    if n <= s {
-        return refused(ABSENT);
-    }
+    let Some(s) = survey::slot_of_card(t, t.len() / RECORD, card) else {
+        return Err(Refusal::Absent);
+    };
     tell(t, s, row)
 }

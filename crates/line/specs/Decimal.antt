@@ -1,15 +1,17 @@
 -- A number's digits by two equations in which no turn is counted: one digit below 10, else those of a tenth and one
--- more. A number below 10 to the power k has at most k. Assumes nothing.
+-- more. How many there are, by powers of ten; and that the library's are the same. Assumes nothing.
 use Rattle.std.specs.Prelude.{
   ℕ,
   zero,
   suc,
   ◌+◌,
+  ◌*◌,
   ◌/◌,
   ◌%◌,
   ◌^◌,
   ◌≤◌,
   ◌<◌,
+  max,
   ◌≡◌,
   refl,
   Bool,
@@ -22,8 +24,10 @@ use Rattle.std.specs.Prelude.{
   ltb,
   length,
 }
-use Rattle.std.proofs.Common.{ap, ◌∙◌, arith, lt-ltb, le-ltb, ltb-false, length-append}
+use Rattle.std.specs.Fmt.{decimal as library_decimal}
+use Rattle.std.proofs.Common.{sym, ap, ◌∙◌, arith, lt-ltb, le-ltb, ltb-false, length-append}
 use Rattle.std.proofs.Math.Decide.{dec_lt}
+use Rattle.std.proofs.lemmas.Fmt.{decimal_by_steps}
 use Rattle.places.specs.Choice.{pick}
 use Rattle.line.specs.Line.{digit, decimal, decimal_within}
 
@@ -83,6 +87,17 @@ few_digits (suc k) n h = elim (dec_lt n 10) [
   | no large ↦ omega (arith, length_more n (omega arith), few_digits k (n / 10) (omega arith))
 ]
 
+some_power : (k : ℕ) → 1 ≤ 10 ^ k
+some_power zero = omega arith
+some_power (suc k) = omega (arith, some_power k)
+
+-- between two powers of ten the number of digits is known; 0 has as many as 1
+pub digits_counted : (k n : ℕ) → 10 ^ k ≤ max n 1 → max n 1 < 10 * 10 ^ k → length (decimal n) ≡ suc k
+digits_counted zero n h g = length_one n (omega arith)
+digits_counted (suc k) n h g =
+    let ten : 10 ≤ n = omega (arith, some_power k) in
+    omega (arith, length_more n ten, digits_counted k (n / 10) (omega arith) (omega arith))
+
 -- so many turns are enough for it
 pub decimal_within_lem : (k n : ℕ) → n < 10 ^ suc k → decimal n ≡ decimal_within (suc k) n
 unfolding decimal_within
@@ -96,6 +111,14 @@ decimal_within_lem (suc k) n h = elim (dec_lt n 10) [
       (le-ltb n 10 ten)
       (ap (λ (l : List ℕ). l ++ (digit (n % 10) ∷ [])) (decimal_within_lem k (n / 10) (omega arith)))
 ]
+
+-- what the library writes
+pub library_same : (n : ℕ) → n < 2 ^ 64 → library_decimal n ≡ decimal n
+library_same =
+    decimal_by_steps
+    (λ (n : ℕ) (ds : List ℕ). ds ≡ decimal n)
+    (λ n h. sym (decimal_one n h))
+    (λ n ds h e. ap (λ (l : List ℕ). l ++ (digit (n % 10) ∷ [])) e ∙ sym (decimal_more n h))
 
 -- what the types of the code hold: 8, 32 and 64 bits
 pub few_digits_8 : (n : ℕ) → n < 2 ^ 8 → length (decimal n) ≤ 3

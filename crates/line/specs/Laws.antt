@@ -1,34 +1,18 @@
--- Lines as the code writes them: a number digit by digit, a row number by number, a line part by part. Each law is one
--- step of a function. Assumes nothing.
-use Rattle.std.specs.Prelude.{
-  ℕ,
-  suc,
-  ◌+◌,
-  ◌-◌,
-  ◌/◌,
-  ◌%◌,
-  ◌≤◌,
-  ◌<◌,
-  ◌≡◌,
-  refl,
-  List,
-  [],
-  ◌∷◌,
-  ◌++◌,
-  length,
-  get_or,
-  set,
-  take,
-  drop,
-}
-use Rattle.std.proofs.Common.{sym, ap, ◌∙◌, append_assoc, append-nil, arith, add-one, le-leb, length-append, drop-cons}
-use Rattle.std.proofs.Math.Nat.{sub-zero}
+-- Lines as the code writes them: a row number by number, a line part by part; and how long they are. Assumes nothing.
+use Rattle.std.specs.Prelude.{ℕ, ◌+◌, ◌≤◌, ◌<◌, ◌≡◌, refl, Option, IsSome, Some, None, unwrap_or}
+use Rattle.std.specs.Prelude.{List, [], ◌∷◌, ◌++◌, length, get_or, take, drop, map, sum}
+use Rattle.std.proofs.Common.{sym, ap, subst, ◌∙◌, append_assoc, append-nil, arith, add-one, le-leb}
+use Rattle.std.proofs.Common.{length-append, drop-cons}
+use Rattle.std.proofs.Math.Decide.{dec_le}
+use Rattle.std.proofs.Math.ListN.{drop_of_length-le}
 use Rattle.std.proofs.lemmas.Bool.{lt-leb}
+use Rattle.std.proofs.lemmas.Grind.{common_steps}
+use Rattle.std.proofs.lemmas.List.{take-append-drop, take_more}
 use Rattle.std.proofs.lemmas.List.Edits.{sets, sets-eq}
 use Rattle.std.proofs.Math.Seq.{take-append_seam}
 use Rattle.places.specs.Fill.{sets_append}
-use Rattle.line.specs.Line.{space, newline, cut_word, digit, decimal, row_of, line_of, cut_of, Laid, laid, line_into}
-use Rattle.line.specs.Decimal.{decimal_one, decimal_more}
+use Rattle.line.specs.Line.{space, newline, cut_word, decimal, row_of, line_of, cut_of, Laid, laid, line_into}
+use Rattle.line.specs.Line.{Fitted, fitted, fitted_into}
 
 -- ---- a number
 
@@ -41,83 +25,47 @@ behind a b l m k i j e p q =
     ∙ ap (λ (n : ℕ). sets (sets l i a) n b) p
     ∙ sym (sets_append a b l i)
 
--- a number of one digit
-pub one_digit : (l : List ℕ) (at n : ℕ) → n < 10 → set l at (digit n) ≡ sets l at (decimal n)
-one_digit l at n h = rw (decimal_one n h)
+-- the library's digits a, which are b, end at j: they are laid at i, and the rest is as before
+pub laid_library :
+    (l m a b : List ℕ) (i j k : ℕ)
+    → a ≡ b
+    → k ≡ i
+    → k + length a ≡ j
+    → j ≤ length l
+    → take k m ≡ take k l
+    → drop k m ≡ a ++ drop j l
+    → m ≡ sets l i b
+laid_library l m a b i j k same starts ends fits before written =
+    sym (take-append-drop k m)
+    ∙ ap (λ (x : List ℕ). x ++ drop k m) before
+    ∙ ap (λ (x : List ℕ). take k l ++ x) written
+    ∙ ap (λ (n : ℕ). take k l ++ (a ++ drop n l)) (sym ends)
+    ∙ sym (append_assoc (take k l) a (drop (k + length a) l))
+    ∙ sym (sets-eq a l k (omega arith))
+    ∙ ap (λ (n : ℕ). sets l n a) starts
+    ∙ ap (λ (x : List ℕ). sets l i x) same
 
--- a tenth is written, and then the last digit
-pub last_digit :
-    (l m : List ℕ) (at end n : ℕ)
-    → 10 ≤ n
-    → m ≡ sets l at (decimal (n / 10))
-    → end ≡ at + length (decimal (n / 10))
-    → set m end (digit (n % 10)) ≡ sets l at (decimal n)
-last_digit l m at end n h e p =
-    let last = digit (n % 10) ∷ [] in
-    behind (decimal (n / 10)) last l m (sets m end last) at end e p refl
-    ∙ ap (λ (ds : List ℕ). sets l at ds) (sym (decimal_more n h))
+-- ---- a row: what is left of the numbers from i on
 
--- a space and a number behind it
-pub space_first :
-    (l : List ℕ) (at n : ℕ) → sets (set l at space) (at + 1) (decimal n) ≡ sets l at (space ∷ decimal n)
-space_first l at n = ap (λ (k : ℕ). sets (set l at space) k (decimal n)) (add-one at)
+unfoldable pub row_left : List ℕ → ℕ → List ℕ
+row_left ns i = row_of (drop i ns)
 
--- ---- a row: what is left of the first k numbers, from i on
-
-unfoldable pub row_left : List ℕ → ℕ → ℕ → List ℕ
-row_left ns k i = row_of (take (k - i) (drop i ns))
-
-pub row_whole : (ns : List ℕ) (k : ℕ) → row_left ns k 0 ≡ row_of (take k ns)
+pub row_whole : (ns : List ℕ) → row_left ns 0 ≡ row_of ns
 unfolding row_left
-row_whole ns k = ap (λ (j : ℕ). row_of (take j ns)) (sub-zero k)
+row_whole ns = refl
 
 -- the next number
 pub row_next :
-    (ns : List ℕ) (k i : ℕ)
-    → i < k
-    → k ≤ length ns
-    → row_left ns k i ≡ (space ∷ decimal (get_or ns i 0)) ++ row_left ns k (i + 1)
+    (ns : List ℕ) (i : ℕ) → i < length ns → row_left ns i ≡ (space ∷ decimal (get_or ns i 0)) ++ row_left ns (i + 1)
 unfolding row_left row_of
-row_next ns k i h b =
-    let more : k - i ≡ suc (k - (i + 1)) = omega arith in
-    let one : drop i ns ≡ get_or ns i 0 ∷ drop (suc i) ns = drop-cons ns i 0 (omega arith) in
-    ap (λ (j : ℕ). row_of (take j (drop i ns))) more
-    ∙ ap (λ (l : List ℕ). row_of (take (suc (k - (i + 1))) l)) one
-    ∙ ap (λ (j : ℕ). (space ∷ decimal (get_or ns i 0)) ++ row_of (take (k - (i + 1)) (drop j ns))) (sym (add-one i))
+row_next ns i h =
+    ap row_of (drop-cons ns i 0 h)
+    ∙ ap (λ (j : ℕ). (space ∷ decimal (get_or ns i 0)) ++ row_of (drop j ns)) (sym (add-one i))
 
 -- none is left
-pub row_over : (ns : List ℕ) (k i : ℕ) → k ≤ i → row_left ns k i ≡ []
+pub row_over : (ns : List ℕ) (i : ℕ) → length ns ≤ i → row_left ns i ≡ []
 unfolding row_left row_of
-row_over ns k i h =
-    let none : k - i ≡ 0 = omega arith in
-    ap (λ (j : ℕ). row_of (take j (drop i ns))) none
-
--- how many bytes the next number x takes of what is left
-pub row_next_length :
-    (ns : List ℕ) (k i x : ℕ)
-    → i < k
-    → k ≤ length ns
-    → x ≡ get_or ns i 0
-    → length (row_left ns k i) ≡ suc (length (decimal x)) + length (row_left ns k (i + 1))
-row_next_length ns k i x h b e =
-    ap length (row_next ns k i h b)
-    ∙ length-append (space ∷ decimal (get_or ns i 0)) (row_left ns k (i + 1))
-    ∙ ap (λ (y : ℕ). suc (length (decimal y)) + length (row_left ns k (i + 1))) (sym e)
-
--- a turn: the next number x is written, and what is left goes behind it
-pub row_turn :
-    (ns l m : List ℕ) (k i at end x : ℕ)
-    → i < k
-    → k ≤ length ns
-    → x ≡ get_or ns i 0
-    → end ≡ at + suc (length (decimal x))
-    → m ≡ sets l at (space ∷ decimal x)
-    → sets m end (row_left ns k (i + 1)) ≡ sets l at (row_left ns k i)
-row_turn ns l m k i at end x h b e p q =
-    let rest = row_left ns k (i + 1) in
-    behind (space ∷ decimal x) rest l m (sets m end rest) at end q p refl
-    ∙ ap (λ (y : ℕ). sets l at ((space ∷ decimal y) ++ rest)) e
-    ∙ ap (λ (r : List ℕ). sets l at r) (sym (row_next ns k i h b))
+row_over ns i h = ap row_of (drop_of_length-le ns {i = i} h)
 
 pub row_append : (a b : List ℕ) → row_of (a ++ b) ≡ row_of a ++ row_of b
 unfolding row_of
@@ -125,6 +73,38 @@ row_append [] b = refl
 row_append (n ∷ a) b =
     ap (λ (l : List ℕ). (space ∷ decimal n) ++ l) (row_append a b)
     ∙ sym (append_assoc (space ∷ decimal n) (row_of a) (row_of b))
+
+-- a row is as long as its numbers, each with its space
+pub row_sum : (ns : List ℕ) → sum (map (λ (n : ℕ). 1 + length (decimal n)) ns) ≡ length (row_of ns)
+unfolding row_of
+row_sum [] = refl
+row_sum (n ∷ ns) = grind (arith, common_steps, row_sum ns, length-append (space ∷ decimal n) (row_of ns))
+
+-- the first numbers, and one more
+pub row_more :
+    (ns : List ℕ) (i x : ℕ)
+    → i < length ns
+    → x ≡ get_or ns i 0
+    → row_of (take i ns) ++ (space ∷ decimal x) ≡ row_of (take (i + 1) ns)
+unfolding row_of
+row_more ns i x h e =
+    ap (λ (l : List ℕ). row_of (take i ns) ++ l) (sym (append-nil (space ∷ decimal x)))
+    ∙ sym (row_append (take i ns) (x ∷ []))
+    ∙ ap (λ (y : ℕ). row_of (take i ns ++ (y ∷ []))) e
+    ∙ ap row_of (sym (take_more ns i 0 h))
+
+-- the first numbers, the next one, and the others
+pub row_parts :
+    (ns : List ℕ) (i x : ℕ)
+    → i < length ns
+    → x ≡ get_or ns i 0
+    → row_of ns ≡ row_of (take i ns) ++ ((space ∷ decimal x) ++ row_left ns (i + 1))
+unfolding row_left
+row_parts ns i x h e =
+    ap row_of (sym (take-append-drop i ns))
+    ∙ row_append (take i ns) (drop i ns)
+    ∙ ap (λ (l : List ℕ). row_of (take i ns) ++ l) (row_next ns i h)
+    ∙ ap (λ (y : ℕ). row_of (take i ns) ++ ((space ∷ decimal y) ++ row_left ns (i + 1))) (sym e)
 
 -- ---- a line: its number, the numbers of its head, the cards, and its end
 
@@ -148,36 +128,11 @@ pub line_length :
 unfolding line_from
 line_length number head cards = simp length-append
 
--- the four parts written, each behind the one before
-pub line_written :
-    (number : ℕ) (head cards l l₁ l₂ l₃ : List ℕ) (a b c : ℕ)
-    → a ≡ 0 + length (decimal number)
-    → l₁ ≡ sets l 0 (decimal number)
-    → b ≡ a + length (row_of head)
-    → l₂ ≡ sets l₁ a (row_of head)
-    → c ≡ b + length (row_of cards)
-    → l₃ ≡ sets l₂ b (row_of cards)
-    → set l₃ c newline ≡ sets l 0 (line_from number head cards)
-unfolding line_from
-line_written number head cards l l₁ l₂ l₃ a b c ea fa eb fb ec fc =
-    let A = decimal number in
-    let B = row_of head in
-    let C = row_of cards in
-    let two = behind A B l l₁ l₂ 0 a fa ea fb in
-    let three = behind (A ++ B) C l l₂ l₃ 0 b two (omega (arith, length-append A B)) fc in
-    behind
-    (A ++ B ++ C)
-    (newline ∷ [])
-    l
-    l₃
-    (set l₃ c newline)
-    0
-    c
-    three
-    (omega (arith, length-append A B, length-append (A ++ B) C))
-    refl
-
 -- ---- the last line
+
+pub cut_parts : (left : ℕ) → cut_of left ≡ cut_word ++ (space ∷ decimal left) ++ (newline ∷ [])
+unfolding cut_of row_of
+cut_parts left = ap (λ (l : List ℕ). cut_word ++ l ++ (newline ∷ [])) (append-nil (space ∷ decimal left))
 
 pub cut_length : (left : ℕ) → length (cut_of left) ≡ length (decimal left) + 5
 unfolding cut_of row_of
@@ -185,29 +140,6 @@ cut_length left =
     let row = length-append (space ∷ decimal left) [] in
     let all = length-append ((space ∷ decimal left) ++ []) (newline ∷ []) in
     omega (arith, row, all)
-
--- the word, then the number behind a space, then the line's end
-pub cut_written :
-    (left c : ℕ) (l m : List ℕ)
-    → c ≡ 3 + suc (length (decimal left))
-    → m ≡ sets (sets l 0 cut_word) 3 (space ∷ decimal left)
-    → set m c newline ≡ sets l 0 (cut_of left)
-unfolding cut_of row_of
-cut_written left c l m e f =
-    let row = space ∷ decimal left in
-    let number = f ∙ ap (sets (sets l 0 cut_word) 3) (sym (append-nil row)) in
-    let two = behind cut_word (row ++ []) l (sets l 0 cut_word) m 0 3 refl refl number in
-    behind
-    (cut_word ++ (row ++ []))
-    (newline ∷ [])
-    l
-    m
-    (set m c newline)
-    0
-    c
-    two
-    (omega (arith, length-append row []))
-    refl
 
 -- ---- a line that fits, or not
 
@@ -227,6 +159,54 @@ laid_fixed line room o p e f = e ∙ sym f
 -- what a function answers and leaves
 pub same_laid : {size n : ℕ} {bytes l : List ℕ} → size ≡ n → bytes ≡ l → laid size bytes ≡ laid n l
 same_laid e f i = laid (e i) (f i)
+
+-- the same told as an option: with 0 for None it is what `line_into` says (`fitted_laid`)
+pub into_room_fitted :
+    (line room : List ℕ)
+    → length line ≤ length room
+    → fitted_into line room ≡ fitted (Some (length line)) (sets room 0 line)
+unfolding fitted_into
+into_room_fitted line room h = rw (le-leb (length line) (length room) h)
+
+pub no_room_fitted : (line room : List ℕ) → length room < length line → fitted_into line room ≡ fitted None room
+unfolding fitted_into
+no_room_fitted line room h = rw (lt-leb (length line) (length room) h)
+
+pub fitted_laid :
+    (line room : List ℕ) (o : Fitted)
+    → o ≡ fitted_into line room
+    → laid (unwrap_or o.size 0) o.bytes ≡ line_into line room
+fitted_laid line room o e =
+    ap (λ (x : Fitted). laid (unwrap_or x.size 0) x.bytes) e ∙ elim (dec_le (length line) (length room)) [
+      | yes h ↦
+          ap (λ (x : Fitted). laid (unwrap_or x.size 0) x.bytes) (into_room_fitted line room h)
+          ∙ sym (into_room line room h)
+      | no h ↦
+          ap (λ (x : Fitted). laid (unwrap_or x.size 0) x.bytes) (no_room_fitted line room (omega arith))
+          ∙ sym (no_room line room (omega arith))
+    ]
+
+-- where the line fits, a length is answered
+pub fitted_some :
+    (line room : List ℕ) (o : Fitted) → length line ≤ length room → o ≡ fitted_into line room → IsSome o.size
+fitted_some line room o h e =
+    subst (λ (x : Fitted). IsSome x.size) (sym (e ∙ into_room_fitted line room h)) refl
+
+-- and where one is, the line is laid
+pub fitted_at :
+    (line room bytes : List ℕ) (size : Option ℕ) (n : ℕ)
+    → fitted size bytes ≡ fitted_into line room
+    → size ≡ Some n
+    → laid n bytes ≡ line_into line room
+fitted_at line room bytes size n e is =
+    ap (λ (s : Option ℕ). laid (unwrap_or s 0) bytes) (sym is) ∙ fitted_laid line room (fitted size bytes) e
+
+pub fitted_fixed : (line room : List ℕ) (o p : Fitted) → o ≡ fitted_into line room → p ≡ fitted_into line room → o ≡ p
+fitted_fixed line room o p e f = e ∙ sym f
+
+-- what a function answers and leaves
+pub same_fitted : {size n : ℕ} {bytes l : List ℕ} → size ≡ n → bytes ≡ l → fitted (Some size) bytes ≡ fitted (Some n) l
+same_fitted e f i = fitted (Some (e i)) (f i)
 
 -- a line that fits stands at the start
 pub line_front : (line room : List ℕ) → length line ≤ length room → take (length line) (sets room 0 line) ≡ line

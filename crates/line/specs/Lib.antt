@@ -2,5 +2,7 @@
 pub mod Line
 pub mod Decimal
 pub mod Laws
+pub mod Steps
+pub mod Pen
 pub mod Fits
 pub mod Examples

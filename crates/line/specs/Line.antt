@@ -1,6 +1,6 @@
 -- "The bench program": what it prints, as bytes, and a line laid into lent bytes. A number more in a line is one more
 -- in the list of `line_of`.
-use Rattle.std.specs.Prelude.{ℕ, zero, suc, ◌+◌, ◌/◌, ◌%◌, List, [], ◌∷◌, ◌++◌, leb, ltb, length}
+use Rattle.std.specs.Prelude.{ℕ, zero, suc, ◌+◌, ◌/◌, ◌%◌, Option, Some, None, List, [], ◌∷◌, ◌++◌, leb, ltb, length}
 use Rattle.std.proofs.lemmas.List.Edits.{sets}
 use Rattle.places.specs.Choice.{pick}
 
@@ -61,3 +61,16 @@ laid size bytes = record { size = size; bytes = bytes }
 -- if it fits, it is laid from the start, and later bytes stay; else nothing is written, and 0 answered
 unfoldable pub line_into : List ℕ → List ℕ → Laid
 line_into line room = pick (leb (length line) (length room)) (laid (length line) (sets room 0 line)) (laid 0 room)
+
+-- the same, told as an option: how many bytes the line has, if it fits
+pub record Fitted : Type 0 where
+  pub size : Option ℕ
+  pub bytes : List ℕ
+
+abbrev pub fitted : Option ℕ → List ℕ → Fitted
+fitted size bytes = record { size = size; bytes = bytes }
+
+-- if it fits, it is laid from the start, and later bytes stay; else nothing is written, and None answered
+unfoldable pub fitted_into : List ℕ → List ℕ → Fitted
+fitted_into line room =
+    pick (leb (length line) (length room)) (fitted (Some (length line)) (sets room 0 line)) (fitted None room)

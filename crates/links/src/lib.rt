@@ -1,232 +1,181 @@
 // One pass over the records: what it asks of each, and the numbers that it brings back.
 #![tactic(auto)]
 
-ghost use Rattle.std.specs.Prelude.{◌≡◌, ◌&&◌, ◌+◌, ◌*◌, ◌≤◌, ◌<◌, min};
+ghost use Rattle.std.specs.Prelude.{◌≡◌, ◌&&◌, ◌*◌, ◌≤◌, ◌<◌};
 ghost use Rattle.refusals.specs.Limits.{most_records, most_children};
 ghost use Rattle.table.specs.Record.{record_of};
 ghost use Rattle.table.specs.Stands.{Stands, StandTo};
 ghost use Rattle.judge.specs.WellFormed.{is_filled, past_count};
 ghost use Rattle.judge.specs.Counted.{all_linked};
-ghost use Rattle.links.specs.Floors.{first_floors, last_floors};
-ghost use Rattle.links.specs.Loop.Seen.{SeenBefore, Looked, Ended, unfit, with_used, largest_byte};
+ghost use Rattle.links.specs.Loop.Seen.{SeenBefore, Looked, Ended, with_free, with_used, largest_byte};
 
 use refusals::limit::CHILDREN;
-use table::NO_SLOT;
 
 // By the count of children: the least number that the first four child slots make if those past the count are 65,535.
-fn first_floors() -> [u64; 9]
-    ensures { result ≡ first_floors }
-{
-    [
-        0xffffffffffffffff,
-        0xffffffffffff0000,
-        0xffffffff00000000,
-        0xffff000000000000,
-        0,
-        0,
-        0,
-        0,
-        0,
-    ]
-}
+static FIRST_FLOORS: [u64; 9] = [
+    0xffffffffffffffff,
+    0xffffffffffff0000,
+    0xffffffff00000000,
+    0xffff000000000000,
+    0,
+    0,
+    0,
+    0,
+    0,
+];
 
 // The same of the last four.
-fn last_floors() -> [u64; 9]
-    ensures { result ≡ last_floors }
-{
-    [
-        0xffffffffffffffff,
-        0xffffffffffffffff,
-        0xffffffffffffffff,
-        0xffffffffffffffff,
-        0xffffffffffffffff,
-        0xffffffffffff0000,
-        0xffffffff00000000,
-        0xffff000000000000,
-        0,
-    ]
-}
+static LAST_FLOORS: [u64; 9] = [
+    0xffffffffffffffff,
+    0xffffffffffffffff,
+    0xffffffffffffffff,
+    0xffffffffffffffff,
+    0xffffffffffffffff,
+    0xffffffffffff0000,
+    0xffffffff00000000,
+    0xffff000000000000,
+    0,
+];
 
 // Are the child slots past the count 65,535? Four at a time and by a row of floors, so that the count is no loop's
 // end and decides no branch, which would be hard to predict.
-fn past_ok(t: &[u8], s: usize, count: usize, first: &[u64; 9], last: &[u64; 9]) -> bool
-    requires stands { Stands t.now s × (count ≡ (record_of t.now s).count) × (count ≤ most_children) }
-    requires first_value { (first.now ≡ first_floors) × (last.now ≡ last_floors) }
+fn past_ok(t: &[u8], s: usize) -> bool
+    requires { Stands t.now s × ((record_of t.now s).count ≤ most_children) }
     ensures { result ≡ past_count (record_of t.now s) }
 {
-    let some = first[count] <= table::four_slots(t, s, 0);
-    let others = last[count] <= table::four_slots(t, s, 1);
+    let count = table::children_of(t, s);
+    let some = FIRST_FLOORS[count] <= table::four_slots(t, s, 0);
+    let others = LAST_FLOORS[count] <= table::four_slots(t, s, 1);
     some & others
 }
 
 // Is each child in the table, does it name s as its parent, and is it younger than the one before it, the first than
 // the record itself? At each turn the i children passed are, and `before` is the last one's timestamp.
-fn children_ok(t: &[u8], n: usize, s: usize, count: usize, timestamp: u32) -> bool
-    requires { StandTo t.now n × (s < n) × (count ≡ (record_of t.now s).count) × (count ≤ most_children)
-        × (timestamp ≡ (record_of t.now s).timestamp) }
+#[tactic(auto, using(table::specs::Stands::stands_below))]
+fn children_ok(t: &[u8], n: usize, s: usize) -> bool
+    requires { StandTo t.now n × (s < n) × ((record_of t.now s).count ≤ most_children) }
     ensures { result ≡ all_linked n (record_of t.now) s }
 {
-    let mut before = timestamp;
-    let mut i = 0;
-    while i < count {
+    let mut before = table::timestamp_of(t, s);
+    for i in 0..table::children_of(t, s) {
         let c = table::child_of(t, s, i);
         if c >= n {
             return false;
         }
         let younger = table::timestamp_of(t, c);
-        if (table::parent_of(t, c) as usize != s) | (younger <= before) {
+        if !table::is_child_of(t, c, s) | (younger <= before) {
             return false;
         }
         before = younger;
-        i += 1;
     }
     true
 }
 
 // Has the used record in slot s every field as it should be, and each of its children linked to it?
-fn record_ok(
-    t: &[u8],
-    n: usize,
-    s: usize,
-    kind: u8,
-    count: u8,
-    timestamp: u32,
-    first: &[u64; 9],
-    last: &[u64; 9],
-) -> bool
-    requires first_value { (first.now ≡ first_floors) × (last.now ≡ last_floors) }
-    requires stand_to { StandTo t.now n × (s < n) × (1 ≤ (record_of t.now s).card)
-        × (kind ≡ (record_of t.now s).kind) × (count ≡ (record_of t.now s).count)
-        × (timestamp ≡ (record_of t.now s).timestamp) }
+#[tactic(auto, using(table::specs::Stands::stands_below))]
+fn record_ok(t: &[u8], n: usize, s: usize) -> bool
+    requires { StandTo t.now n × (s < n) × (1 ≤ (record_of t.now s).card) }
     ensures { result ≡ is_filled (record_of t.now s) && all_linked n (record_of t.now) s }
 {
+    let timestamp = table::timestamp_of(t, s);
+    let kind = table::kind_of(t, s);
+    let count = table::count_of(t, s);
     if (timestamp == 0) | !distance::known_kind(kind) | (count > CHILDREN) {
         return false;
     }
-    past_ok(t, s, count as usize, first, last) && children_ok(t, n, s, count as usize, timestamp)
+    past_ok(t, s) && children_ok(t, n, s)
 }
 
-// What a pass has seen of the records before a slot: whether all of them fit, the kind of the last used one, how many
-// of all records were not found free, how many children they count, and whether timestamps rise with the slots, so that
-// they need not be told apart; and for the calls the lowest free slot, the largest timestamp and the slot of the root.
-// A slot that is not found is the number of records, and so past the last.
+// What a pass has seen of the records before a slot, all of which fit: the kind of the last used one, how many of all
+// records were not found free, how many children they count, and whether timestamps rise with the slots, so that they
+// need not be told apart; and for the calls the lowest free slot, the largest timestamp and the slot of the root.
 #[derive(Clone, Copy)]
 pub struct Seen {
-    pub fit: bool,
-    pub kind: u8,
+    pub kind: Option<u8>,
     pub used: usize,
     pub children: usize,
     pub rising: bool,
-    pub lowest: usize,
+    pub lowest: Option<usize>,
     pub largest: u32,
-    pub root: usize,
+    pub root: Option<usize>,
 }
 
-fn earlier(a: usize, b: usize) -> usize
-    ensures { result ≡ min a b }
-{
-    if a < b { a } else { b }
-}
+impl Seen {
+    // What is seen with the free record in slot s besides.
+    fn with_free(self, s: usize) -> Seen
+        requires { 1 ≤ self.used }
+        ensures { result ≡ with_free self s }
+    {
+        Seen {
+            used: self.used - 1,
+            lowest: self.lowest.or(Some(s)),
+            ..self
+        }
+    }
 
-// What is told where the table cannot be well formed. All else stays as it was: numbers of their own would be made
-// ready before each test, for an end that hardly comes.
-fn misfit(seen: Seen) -> Seen
-    ensures { result ≡ unfit seen }
-{
-    Seen {
-        fit: false,
-        kind: seen.kind,
-        used: seen.used,
-        children: seen.children,
-        rising: seen.rising,
-        lowest: seen.lowest,
-        largest: seen.largest,
-        root: seen.root,
+    // What is seen with the used record in slot s besides, which fits; this is then the root.
+    fn with_used(self, t: &[u8], s: usize, root: Option<usize>) -> Seen
+        requires stands { Stands t.now s }
+        requires few { self.children ≤ largest_byte * most_records }
+        ensures { result ≡ with_used self (record_of t.now s) root }
+    {
+        let timestamp = table::timestamp_of(t, s);
+        Seen {
+            kind: Some(table::kind_of(t, s)),
+            children: self.children + table::children_of(t, s),
+            rising: self.rising & (self.largest < timestamp),
+            largest: timestamp.max(self.largest),
+            root,
+            ..self
+        }
     }
 }
 
-// What is seen with a used record besides that fits.
-fn with_used(seen: Seen, kind: u8, count: u8, timestamp: u32, root: usize) -> Seen
-    requires { seen.children ≤ largest_byte * most_records }
-    ensures { result ≡ with_used seen kind count timestamp root }
-{
-    Seen {
-        fit: true,
-        kind,
-        used: seen.used,
-        children: seen.children + count as usize,
-        rising: seen.rising & (seen.largest < timestamp),
-        lowest: seen.lowest,
-        largest: survey::larger(timestamp, seen.largest),
-        root,
-    }
-}
-
-// What the pass has seen, with the record in slot s besides. A record that does not fit, or a second root, ends it at
-// once, so that no number has to be kept for it.
-fn look(t: &[u8], n: usize, s: usize, seen: Seen, first: &[u64; 9], last: &[u64; 9]) -> Seen
-    requires first_value { (first.now ≡ first_floors) × (last.now ≡ last_floors) }
-    requires stand_to { StandTo t.now n × (n ≤ most_records) × (s < n) × SeenBefore n (record_of t.now) s seen }
+// What the pass has seen, with the record in slot s besides; none if that does not fit or is a second root, so that the
+// table cannot be well formed.
+#[tactic(auto, using(table::specs::Stands::stands_below))]
+fn look(t: &[u8], n: usize, s: usize, seen: Seen) -> Option<Seen>
+    requires { StandTo t.now n × (n ≤ most_records) × (s < n) × SeenBefore n (record_of t.now) s seen }
     ensures { Looked n (record_of t.now) s result }
 {
     if table::card_of(t, s) == 0 {
         if !table::is_free(t, s) {
-            return misfit(seen);
+            return None;
         }
-        return Seen {
-            fit: true,
-            kind: seen.kind,
-            used: seen.used - 1,
-            children: seen.children,
-            rising: seen.rising,
-            lowest: earlier(seen.lowest, s),
-            largest: seen.largest,
-            root: seen.root,
-        };
+        return Some(seen.with_free(s));
     }
     let kind = table::kind_of(t, s);
-    let count = table::count_of(t, s);
-    let timestamp = table::timestamp_of(t, s);
-    if (seen.kind != kind) & (seen.kind != 0) {
-        return misfit(seen);
+    if seen.kind.unwrap_or(kind) != kind {
+        return None;
     }
-    if !record_ok(t, n, s, kind, count, timestamp, first, last) {
-        return misfit(seen);
+    if !record_ok(t, n, s) {
+        return None;
     }
-    if table::parent_of(t, s) != NO_SLOT {
-        return with_used(seen, kind, count, timestamp, seen.root);
+    if table::parent_of(t, s).is_some() {
+        return Some(seen.with_used(t, s, seen.root));
     }
-    if seen.root < n {
-        return misfit(seen);
+    if seen.root.is_some() {
+        return None;
     }
-    with_used(seen, kind, count, timestamp, s)
+    Some(seen.with_used(t, s, Some(s)))
 }
 
-// The whole pass, up to the first record that does not fit or is a second root. At each turn it has seen the records
-// before s, and they fit.
-pub fn links(t: &[u8], n: usize) -> Seen
+// The whole pass; none if a record does not fit or is a second root. At each turn it has seen the records before s.
+pub fn links(t: &[u8], n: usize) -> Option<Seen>
     requires { StandTo t.now n × (n ≤ most_records) }
     ensures { Ended n (record_of t.now) result }
 {
-    let first = first_floors();
-    let last = last_floors();
     let mut seen = Seen {
-        fit: true,
-        kind: 0,
+        kind: None,
         used: n,
         children: 0,
         rising: true,
-        lowest: n,
+        lowest: None,
         largest: 0,
-        root: n,
+        root: None,
     };
-    let mut s = 0;
-    while s < n {
-        seen = look(t, n, s, seen, &first, &last);
-        if !seen.fit {
-            return seen;
-        }
-        s += 1;
+    for s in 0..n {
+        seen = look(t, n, s, seen)?;
     }
-    seen
+    Some(seen)
 }

@@ -6,7 +6,9 @@ use mathlib.Core.List.{List, [], ◌∷◌, map}
 use Rattle.std.proofs.lemmas.List.Edits.{sets}
 use Rattle.distance.specs.Signature.{readings_at}
 use Rattle.distance.specs.Kind.{apart}
+use Rattle.refusals.specs.declared.Refusal.{Refusal}
 use Rattle.refusals.specs.Refusal.{done}
+use Rattle.refusals.specs.Told.{number_of, number_some}
 use Rattle.pairs.specs.declared.Pair.{Pair}
 use Rattle.table.specs.Record.{Record, Used, record_of}
 use Rattle.table.specs.Table.{records_in}
@@ -52,6 +54,17 @@ pub refuses :
 refuses l kind s k room r n ps e ne z list long =
     let here : refusal_of l kind s k (length list) ≡ r = ap (refusal_of l kind s k) long ∙ e in
     rw (refused_is l kind s k list (λ y. ne (sym here ∙ y)), here, z)
+
+-- what a call that is refused leaves, by the refusal that it gives
+pub refused_by :
+    (l : List ℕ) (kind : ℕ) (s : List ℕ) (k room : ℕ) (why : Refusal)
+    → refusal_of l kind s k room ≡ number_of why
+    → (list : List Pair)
+    → length list ≡ room
+    → outcome (number_of why) 0 0 list ≡ nearest_of l kind s k list
+refused_by l kind s k room why e list long =
+    let here : refusal_of l kind s k (length list) ≡ number_of why = ap (refusal_of l kind s k) long ∙ e in
+    rw (refused_is l kind s k list (λ z. number_some why (sym here ∙ z)), here)
 
 -- ---- a table of n records
 

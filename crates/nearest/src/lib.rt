@@ -1,27 +1,34 @@
-// The nearest few cards (02, #101): the call, with its refusals. It works on numbers alone, and is told how long the
-// lent list is; the door lays its pairs over that list.
+// The nearest few cards (02, #101): the call, with its refusals. The work is on numbers alone, and its pairs
+// are laid over the lent list in the end.
 #![tactic(auto)]
 
-ghost use Rattle.std.specs.Prelude.{◌≡◌, List, map, ℕ, ◌^◌, ◌≤◌, ◌<◌, length, take};
+ghost use Rattle.std.specs.Prelude.{◌≡◌, List, [], map, ℕ, ◌≤◌, length, take, IfOk};
 ghost use Rattle.std.proofs.lemmas.List.Edits.{sets};
-ghost use Rattle.distance.specs.Signature.{Fit};
 ghost use Rattle.refusals.specs.Limits.{most_nearest};
 ghost use Rattle.pairs.specs.declared.Pair.{Pair};
 ghost use Rattle.table.specs.Record.{record_of};
 ghost use Rattle.table.specs.Table.{records_in};
 ghost use Rattle.survey.specs.Survey.{used_in, root_of};
 ghost use Rattle.judge.specs.Readable.{Readable};
-ghost use Rattle.admission.specs.Admission.{Admits};
+ghost use Rattle.refusals.specs.Refusal.{first_of, done};
+ghost use Rattle.refusals.specs.Told.{told, distances_in, found_in};
+ghost use Rattle.pairs.specs.declared.Answer.{Answer};
+ghost use Rattle.survey.specs.Answers.{Answers};
+ghost use Rattle.admission.specs.Admission.{admission_tests};
+ghost use Rattle.nearest.specs.Laid.{distances_told, cards_told, laid};
+ghost use Rattle.waiting.specs.Front.{state};
+ghost use Rattle.waiting.specs.Rows.{front_of};
 ghost use Rattle.nearest.specs.Nearest.{outcome, right_arguments, refusal_of, listing_of, nearest_of, distances};
 ghost use Rattle.nearest.specs.Keys.{pair_in, keys_held};
 
-use admission::Admitted;
 use admission::query::{known_query, other_kind};
-use distance::{FARTHEST, Signature};
+use distance::{FARTHEST, Query};
 use pairs::{Answer, Pair};
-use refusals::limit::{NEAREST, RECORDS};
-use refusals::{ARGUMENT, DONE, KIND, SHORT};
-use waiting::{FIRST, Front, SECOND};
+use refusals::limit::NEAREST;
+use refusals::{Found, Refusal};
+use survey::Findings;
+use waiting::Front;
+use waiting::keys::{first_in, second_in};
 
 // Whether kind and signature are known, and k is 1 to 64; if not, the call is refused with ARGUMENT.
 fn right_arguments(kind: u8, signature: &[u8], k: u32) -> bool
@@ -30,55 +37,47 @@ fn right_arguments(kind: u8, signature: &[u8], k: u32) -> bool
     known_query(kind, signature) & ((1 <= k) & (k as usize <= NEAREST))
 }
 
-// The first refusal, 0 if there is none: by what was learnt of the table, by what the call is told, and by the room in
-// its list.
-fn refusal_of(lent: Admitted, kind: u8, signature: &[u8], k: u32, room: usize) -> u8
-    ensures { (l : List ℕ) → Admits l lent → result ≡ refusal_of l kind signature.now k room }
+// The refusals of an admitted table, in their order: by what the call is told, by the table's kind, and by the room in
+// the list.
+fn own_tests(
+    there: Findings,
+    kind: u8,
+    signature: &[u8],
+    k: u32,
+    room: usize,
+) -> Result<(), Refusal>
+    ensures { (l : List ℕ)
+        → first_of (admission_tests l) ≡ done
+        → Answers (records_in l) (record_of l) there
+        → told result ≡ refusal_of l kind signature.now k room }
 {
-    if lent.refusal != DONE {
-        return lent.refusal;
-    }
     if !right_arguments(kind, signature, k) {
-        return ARGUMENT;
+        return Err(Refusal::Argument);
     }
-    let found = lent.found;
-    if other_kind(found, kind) {
-        return KIND;
+    if other_kind(there, kind) {
+        return Err(Refusal::Kind);
     }
     if room < k as usize {
-        return SHORT;
+        return Err(Refusal::Short);
     }
-    DONE
+    Ok(())
 }
 
-// The work in a used table, from its root on: the first k are held in the row, and this is how far it came.
-fn search_from(
-    t: &[u8],
-    kind: u8,
-    q: Signature,
-    k: usize,
-    held: &mut [u64],
-    used: usize,
-    root: usize,
-) -> Front
-    requires readable { Readable t.now × Fit q.readings
-        × (1 ≤ k) × (k ≤ most_nearest) × (length held.old ≡ most_nearest) }
-    requires le_used { (1 ≤ used) × (used ≡ used_in (records_in t.now) (record_of t.now))
+// The work in a used table, from its root on: the first k are held in the front, and this is how far it came.
+fn search_from(t: &[u8], q: Query, used: usize, root: usize, front: &mut Front)
+    requires readable { Readable t.now }
+    requires begins { front_of front.old ≡ state [] [] 0 }
+    requires there { (1 ≤ used) × (used ≡ used_in (records_in t.now) (record_of t.now))
         × (root ≡ root_of (records_in t.now) (record_of t.now)) }
-    ensures { (take result.held held.new
-        ≡ keys_held (records_in t.now) (record_of t.now) kind q.readings k)
-        × (result.count ≡ distances (records_in t.now) (record_of t.now) kind q.readings k)
-        × (result.held ≤ k) × (result.count < 2 ^ 32) }
+    ensures held { (front_of front.new).held
+        ≡ keys_held (records_in t.now) (record_of t.now) q.kind q.signature.readings front.old.k }
+    ensures count { front.new.count
+        ≡ distances (records_in t.now) (record_of t.now) q.kind q.signature.readings front.old.k }
+    ensures same_k { front.new.k ≡ front.old.k }
 {
-    let mut waits = [0u64; RECORDS];
-    let none = Front {
-        waits: 0,
-        held: 0,
-        count: 0,
-    };
-    let away = steps::away_from(t, kind, q, root);
-    let start = waiting::meet(t, root, k, away, 0, FARTHEST as u64, &mut waits, held, none);
-    taking::take_all(t, kind, q, k, &mut waits, held, start, used)
+    let away = u64::from(table::away_from(t, root, q));
+    front.meet(t, root, away, 0, u64::from(FARTHEST));
+    taking::take_all(t, q, used, front);
 }
 
 // The card and the distance in a key.
@@ -86,31 +85,29 @@ fn pair_in(key: u64) -> Pair
     ensures { result ≡ pair_in key }
 {
     Pair {
-        card: (key / SECOND % 4294967296) as u32,
-        distance: (key / FIRST) as u32,
+        card: second_in(key),
+        distance: first_in(key) as u32,
     }
 }
 
-// The pairs of the first n keys: at each turn the first i stand.
-fn pairs_of(held: &[u64], n: usize) -> [Pair; NEAREST]
-    requires { (n ≤ most_nearest) × (length held.now ≡ most_nearest) }
-    ensures { (take n result ≡ map pair_in (take n held.now)) × (length result ≡ most_nearest) }
+// The pairs of the keys: at each turn the first i stand.
+fn pairs_of(held: &[u64]) -> [Pair; NEAREST]
+    requires { length held.now ≤ most_nearest }
+    ensures { (take (length held.now) result ≡ map pair_in held.now) × (length result ≡ most_nearest) }
 {
     let mut pairs = [Pair {
         card: 0,
         distance: 0,
     }; NEAREST];
-    let mut i = 0;
-    while i < n {
-        pairs[i] = pair_in(held[i]);
-        i += 1;
+    for (i, key) in held.iter().enumerate() {
+        pairs[i] = pair_in(*key);
     }
     pairs
 }
 
-// No pair: in a free table, or if the call is refused.
-fn nothing(refusal: u8) -> Answer
-    ensures { (result.n ≡ 0) × (result.refusal ≡ refusal) }
+// No pair, and nothing counted: in a free table.
+fn nothing() -> Answer
+    ensures { (result.n ≡ 0) × (result.count ≡ 0) }
 {
     Answer {
         pairs: [Pair {
@@ -118,73 +115,67 @@ fn nothing(refusal: u8) -> Answer
             distance: 0,
         }; NEAREST],
         n: 0,
-        refusal: refusal as u32,
+        count: 0,
     }
 }
 
-// The nearest cards of a table that no test refuses.
-fn accepted(
-    t: &[u8],
-    kind: u8,
-    q: Signature,
-    k: usize,
-    used: usize,
-    root: usize,
-    count: &mut u32,
-    found: &mut u32,
-) -> Answer
-    requires readable { Readable t.now × Fit q.readings × (1 ≤ k) × (k ≤ most_nearest) }
-    requires used_value { (used ≡ used_in (records_in t.now) (record_of t.now))
+// The nearest cards of a used table that no test refuses.
+fn accepted(t: &[u8], q: Query, k: usize, used: usize, root: usize) -> Answer
+    requires readable { Readable t.now × (1 ≤ k) × (k ≤ most_nearest) }
+    requires there { (1 ≤ used) × (used ≡ used_in (records_in t.now) (record_of t.now))
         × (root ≡ root_of (records_in t.now) (record_of t.now)) }
     ensures { ((list : List Pair)
-        → outcome result.refusal count.new found.new (sets list 0 (take result.n result.pairs))
-        ≡ listing_of t.now kind q.readings k list)
+        → outcome done result.count result.n (sets list 0 (take result.n result.pairs))
+        ≡ listing_of t.now q.kind q.signature.readings k list)
         × (result.n ≤ k) }
 {
-    if used == 0 {
-        *count = 0;
-        *found = 0;
-        return nothing(DONE);
-    }
-    let mut held = [0u64; NEAREST];
-    let f = search_from(t, kind, q, k, &mut held, used, root);
-    let pairs = pairs_of(&held, f.held);
-    *count = f.count as u32;
-    *found = f.held as u32;
+    let mut front = Front::new(k);
+    search_from(t, q, used, root, &mut front);
+    let held = front.held();
     Answer {
-        pairs: pairs,
-        n: f.held,
-        refusal: DONE as u32,
+        pairs: pairs_of(held),
+        n: held.len(),
+        count: front.count as u32,
     }
 }
 
-// The k nearest cards of the table to the signature: their pairs, nearest first, for a list of `room` entries, and
-// where the caller points the distances worked out and the cards found. Right for each list of that length; a refused
-// call has no pair and counts nothing.
-pub fn nearest(
+// The k nearest cards of the table to the signature: their pairs, nearest first, for a list of `room` entries, and the
+// distances worked out. Right for each list of that length; a refused call has no pair.
+pub fn nearest(t: &[u8], kind: u8, signature: &[u8], k: u32, room: usize) -> Result<Answer, Refusal>
+    ensures pairs { (list : List Pair)
+        → length list ≡ room
+        → outcome (told result) (distances_told result) (cards_told result) (laid result list)
+        ≡ nearest_of t.now kind signature.now k list }
+    ensures few { IfOk result (λ (a : Answer). (a.n ≤ room) × (a.n ≤ most_nearest)) }
+{
+    let there = admission::admit(t)?;
+    own_tests(there, kind, signature, k, room)?;
+    let Some(root) = there.root else {
+        return Ok(nothing());
+    };
+    let q = Query {
+        kind,
+        signature: distance::signature_at(signature, 0),
+    };
+    Ok(accepted(t, q, k as usize, there.used, root))
+}
+
+// Lays the pairs of the k nearest cards over the list, from its start; later entries stay. A refused call leaves the
+// list.
+pub fn lay_nearest(
     t: &[u8],
     kind: u8,
     signature: &[u8],
     k: u32,
-    room: usize,
-    count: &mut u32,
-    found: &mut u32,
-) -> Answer
-    ensures { ((list : List Pair)
-        → length list ≡ room
-        → outcome result.refusal count.new found.new (sets list 0 (take result.n result.pairs))
-        ≡ nearest_of t.now kind signature.now k list)
-        × (result.n ≤ room)
-        × (result.n ≤ most_nearest) }
+    list: &mut [Pair],
+) -> Result<Found, Refusal>
+    ensures { outcome (told result) (distances_in result) (found_in result) list.new
+        ≡ nearest_of t.now kind signature.now k list.old }
 {
-    let lent = admission::admit(t);
-    let refusal = refusal_of(lent, kind, signature, k, room);
-    if refusal != DONE {
-        *count = 0;
-        *found = 0;
-        return nothing(refusal);
-    }
-    let q = distance::signature_at(signature, 0);
-    let there = lent.found;
-    accepted(t, kind, q, k as usize, there.used, there.root, count, found)
+    let answer = nearest(t, kind, signature, k, list.len())?;
+    pairs::fill(list, answer);
+    Ok(Found {
+        count: answer.count,
+        found: answer.n as u32,
+    })
 }

@@ -1,6 +1,6 @@
--- What each of the newcomer's changes of a record comes to: one write after others, a radius, a child, and the eight
--- child slots. Assumes nothing.
-use Prim.Native.Nat.{ℕ, zero, suc, ◌+◌, ◌≤◌, ◌<◌, max}
+-- What the newcomer's changes of a record come to: one write after others, a radius, a child, and the eight child
+-- slots. Assumes nothing.
+use Prim.Native.Nat.{ℕ, zero, suc, ◌+◌, ◌^◌, ◌≤◌, ◌<◌, max}
 use mathlib.Core.Path.{◌≡◌, refl, sym, ap, ◌∙◌}
 use mathlib.Core.List.{List}
 use native.Mathlib.Omega.{arith}
@@ -9,9 +9,9 @@ use lib.ListN.{length, set, replicate, length-set, length-replicate, get_or-repl
 use Rattle.refusals.specs.Limits.{most_children}
 use Rattle.places.specs.Fill.{Filled, filled_more, filled_all}
 use Rattle.table.specs.Record.{Record, record_of, no_slot}
-use Rattle.writing.specs.Put.{parts, with_radius, with_slot, with_count}
+use Rattle.writing.specs.Put.{put_radius, with_radius, parts, with_slot, with_count}
 use Rattle.table.specs.Stands.{Stands, stands_same}
-use Rattle.writing.specs.Laws.{Became, then_with}
+use Rattle.writing.specs.Laws.{Became, became_by, put_radius_lem, then_with}
 use Rattle.newcomer.specs.Newcomer.{raised, adopting}
 
 -- ---- one write after others
@@ -28,13 +28,17 @@ wrote_then {l} {m} {s = s} f before stands write =
 
 -- ---- a radius, and a child
 
-pub raised_more : (r : Record) (away : ℕ) → r.radius < away → with_radius r away ≡ raised away r
+-- the larger of the radius and the distance, written as the radius
+pub raised_by :
+    (l m : List ℕ) (a away k : ℕ)
+    → m ≡ put_radius l a k
+    → Stands l a
+    → k ≡ max (record_of l a).radius away
+    → k < 256 ^ 4
+    → Became l a (raised away (record_of l a)) m
 unfolding raised
-raised_more r away h = let e : away ≡ max r.radius away = omega arith in ap (with_radius r) e
-
-pub raised_not : (r : Record) (away : ℕ) → away ≤ r.radius → r ≡ raised away r
-unfolding raised
-raised_not r away h = let e : r.radius ≡ max r.radius away = omega arith in ap (with_radius r) e
+raised_by l m a away k e h larger fits =
+    became_by (put_radius_lem l a h k fits) (ap (with_radius (record_of l a)) larger) e
 
 pub adopting_is : (r : Record) (n s : ℕ) → n ≡ r.count → with_count (with_slot r n s) (n + 1) ≡ adopting s r
 unfolding adopting

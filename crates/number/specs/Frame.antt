@@ -1,7 +1,10 @@
 -- What a write changes and what it leaves, by single bytes and over any width:
 -- a number written is read back, and a number whose bytes stand apart is as it was. Assumes nothing.
 use Rattle.std.specs.Prelude.{ℕ, zero, suc, ◌+◌, ◌/◌, ◌^◌, ◌≤◌, ◌<◌, ◌≡◌, refl, set}
-use Rattle.std.proofs.Common.{sym, ◌∙◌, add-zero, pow-suc, length-set, get_or-set_same, get_or-set_other}
+use Rattle.std.proofs.Common.{sym, ◌∙◌, add-zero, zero-add, pow-suc, take, drop}
+use Rattle.std.proofs.Common.{length-set, get_or-set_same, get_or-set_other}
+use Rattle.std.proofs.lemmas.List.{get_or-take, get_or-drop}
+use Rattle.std.proofs.Math.Seq.{paste, paste-zero, paste-suc, drop-cons}
 use Rattle.std.proofs.Math.Path.{ap, ap₂}
 use mathlib.Core.List.{List, [], ◌∷◌}
 use native.Mathlib.Omega.{arith}
@@ -22,7 +25,7 @@ Same at n m l = (j : ℕ) → j < n → get_or m (at + j) 0 ≡ get_or l (at + j
 
 -- ---- digits
 
-digits_length : (n v : ℕ) → length (digits n v) ≡ n
+pub digits_length : (n v : ℕ) → length (digits n v) ≡ n
 digits_length zero v = refl
 digits_length (suc n) v = ap suc (digits_length n (v / 256))
 
@@ -64,6 +67,35 @@ from_inside (b ∷ bs) l at k (suc j) p h =
     let e : at + (k + suc j) ≡ at + (suc k + j) = omega arith in
     rw e (from_inside bs (set l (at + k) b) at (suc k) j (omega arith) (rw length-set (omega arith)))
 
+-- the bytes of bs from k on, written one by one behind the first k, are all of bs
+written_rest :
+    (rest bs l : List ℕ) (at k : ℕ)
+    → drop k bs ≡ rest
+    → k + length rest ≡ length bs
+    → at + length bs ≤ length l
+    → written_from (paste l at bs k) at k rest ≡ paste l at bs (length bs)
+written_rest [] bs l at k d e h = ap (paste l at bs) (omega (arith, e))
+written_rest (b ∷ rest) bs l at k d e h =
+    let seam = drop-cons bs k 0 (omega arith) in
+    let here : get_or bs k 0 ≡ b = cc in
+    let behind : drop (suc k) bs ≡ rest = cc in
+    let turn = rw here at (paste-suc l at bs k 0 (omega arith) (omega arith)) in
+    ap (λ (m : List ℕ). written_from m at (suc k) rest) turn ∙ written_rest rest bs l at (suc k) behind (omega arith) h
+
+-- n bytes put in their place at once are the number written
+pub written_at_once :
+    (n : ℕ) (l : List ℕ) (at v : ℕ) → at + n ≤ length l → paste l at (digits n v) n ≡ with_number n l at v
+unfolding with_number
+written_at_once n l at v h =
+    let bs = digits n v in
+    let none = paste-zero l at bs in
+    let all = written_rest bs bs l at 0 refl (omega arith) (omega (arith, digits_length n v)) in
+    let size = digits_length n v in
+    ap (paste l at bs) (sym size)
+    ∙ sym all
+    ∙ ap (λ (m : List ℕ). written_from m at 0 bs) (sym none)
+    ∙ sym (written_as l at bs)
+
 -- ---- a number written: its length, the bytes outside, the bytes inside
 
 module _ (n : ℕ) (l : List ℕ) (at v : ℕ) where
@@ -99,6 +131,22 @@ unfolding number_at
 number_as zero l at = refl
 number_as (suc n) l at = rw add-zero
 
+number_from_alike :
+    (n k : ℕ) (m l : List ℕ) (at of : ℕ)
+    → ((j : ℕ) → j < k + n → get_or m (at + j) 0 ≡ get_or l (of + j) 0)
+    → number_from m at k n ≡ number_from l of k n
+number_from_alike zero k m l at of h = refl
+number_from_alike (suc n) k m l at of h =
+    omega (arith, h k (omega arith), number_from_alike n (suc k) m l at of (λ j p. h j (omega arith)))
+
+-- the same bytes at two places make the same number
+pub number_alike :
+    (n : ℕ) (m l : List ℕ) (at of : ℕ)
+    → ((j : ℕ) → j < n → get_or m (at + j) 0 ≡ get_or l (of + j) 0)
+    → number_at n m at ≡ number_at n l of
+number_alike n m l at of h =
+    number_as n m at ∙ number_from_alike n 0 m l at of (λ j p. h j (omega arith)) ∙ sym (number_as n l of)
+
 number_from_same :
     (n k : ℕ) (m l : List ℕ) (at : ℕ)
     → ((j : ℕ) → j < k + n → get_or m (at + j) 0 ≡ get_or l (at + j) 0)
@@ -109,8 +157,17 @@ number_from_same (suc n) k m l at h =
 
 -- the same bytes make the same number
 pub number_same : (n : ℕ) (m l : List ℕ) (at : ℕ) → Same at n m l → number_at n m at ≡ number_at n l at
-number_same n m l at h =
-    number_as n m at ∙ number_from_same n 0 m l at (λ j p. h j (omega arith)) ∙ sym (number_as n l at)
+number_same n m l at h = number_alike n m l at at h
+
+-- and so does a copy of them, taken out
+pub number_copied :
+    (n k : ℕ) (m l : List ℕ) (at : ℕ) → n ≤ k → m ≡ take k (drop at l) → number_at n m 0 ≡ number_at n l at
+number_copied n k m l at h e =
+    number_alike n m l 0 at
+    (λ j p.
+    let within = get_or-take k (drop at l) j 0 (omega arith) in
+    let there = get_or-drop at l j 0 in
+    ap (λ (b : List ℕ). get_or b (0 + j) 0) e ∙ rw zero-add (within ∙ there))
 
 number_from_digits :
     (n k v : ℕ) (m : List ℕ) (at : ℕ)

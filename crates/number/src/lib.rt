@@ -1,103 +1,71 @@
 // Numbers in lent bytes, low byte first.
-#![tactic(auto)]
+#![tactic(auto, unfolding(crate::specs::Number::number_at))]
 
-ghost use Rattle.std.specs.Prelude.{◌≡◌, ◌+◌, ◌≤◌, ◌<◌, length};
-ghost use Rattle.number.specs.Number.{number_at, open_number, with_number};
+ghost use Rattle.std.specs.Prelude.{ℕ, ◌≡◌, ◌+◌, ◌≤◌, length};
+ghost use Rattle.number.specs.Number.{number_at, with_number, digits};
 
-fn wide16(x: u8) -> u16
-    ensures { (result ≡ x) × (result < 256) }
-{
-    x as u16
+// A number that takes N bytes, lowest first. Its clauses cite `value`, at each type here the number as it is.
+pub trait LowByteFirst<const N: usize>: Copy {
+    ghost value: { Self → ℕ };
+
+    fn from_bytes(bytes: &[u8; N]) -> Self
+        ensures { value result ≡ number_at N bytes.now 0 };
+
+    fn to_bytes(self) -> [u8; N]
+        ensures { result ≡ digits N (value self) };
 }
 
-fn wide32(x: u8) -> u32
-    ensures { (result ≡ x) × (result < 256) }
-{
-    x as u32
+impl LowByteFirst<2> for u16 {
+    ghost value = { λ v. v };
+
+    fn from_bytes(bytes: &[u8; 2]) -> u16 {
+        u16::from_le_bytes(*bytes)
+    }
+
+    fn to_bytes(self) -> [u8; 2] {
+        u16::to_le_bytes(self)
+    }
 }
 
-fn wide64(x: u8) -> u64
-    ensures { (result ≡ x) × (result < 256) }
-{
-    x as u64
+impl LowByteFirst<4> for u32 {
+    ghost value = { λ v. v };
+
+    fn from_bytes(bytes: &[u8; 4]) -> u32 {
+        u32::from_le_bytes(*bytes)
+    }
+
+    fn to_bytes(self) -> [u8; 4] {
+        u32::to_le_bytes(self)
+    }
 }
 
-// The open form of `get_u16`: its contract computes, so that the prover closes it unaided. So for the others below.
-fn open_u16(t: &[u8], at: usize) -> u16
-    requires { at + 2 ≤ length t.now }
-    ensures { result ≡ open_number 2 t.now at }
-{
-    wide16(t[at]) + 0x100 * wide16(t[at + 1])
+impl LowByteFirst<8> for u64 {
+    ghost value = { λ v. v };
+
+    fn from_bytes(bytes: &[u8; 8]) -> u64 {
+        u64::from_le_bytes(*bytes)
+    }
+
+    fn to_bytes(self) -> [u8; 8] {
+        u64::to_le_bytes(self)
+    }
 }
 
-// The number in the two bytes from `at` on.
-pub fn get_u16(t: &[u8], at: usize) -> u16
-    requires { at + 2 ≤ length t.now }
-    ensures { result ≡ number_at 2 t.now at }
+// The number in the N bytes from `at` on. The copy compiles to one load, where taking the array by `first_chunk` leaves
+// a test of the length.
+pub fn get<const N: usize, T: LowByteFirst<N>>(t: &[u8], at: usize) -> T
+    requires { at + N ≤ length t.now }
+    ensures { T.value result ≡ number_at N t.now at }
 {
-    open_u16(t, at)
+    let mut bytes = [0; N];
+    bytes.copy_from_slice(&t[at..at + N]);
+    T::from_bytes(&bytes)
 }
 
-fn open_u32(t: &[u8], at: usize) -> u32
-    requires { at + 4 ≤ length t.now }
-    ensures { result ≡ open_number 4 t.now at }
+// Writes v into the N bytes from `at` on, which compiles to one store.
+pub fn put<const N: usize, T: LowByteFirst<N>>(t: &mut [u8], at: usize, v: T)
+    requires { at + N ≤ length t.old }
+    ensures { t.new ≡ with_number N t.old at (T.value v) }
 {
-    wide32(t[at])
-        + 0x100 * wide32(t[at + 1])
-        + 0x10000 * wide32(t[at + 2])
-        + 0x1000000 * wide32(t[at + 3])
-}
-
-// The number in the four bytes from `at` on.
-pub fn get_u32(t: &[u8], at: usize) -> u32
-    requires { at + 4 ≤ length t.now }
-    ensures { result ≡ number_at 4 t.now at }
-{
-    open_u32(t, at)
-}
-
-fn open_u64(t: &[u8], at: usize) -> u64
-    requires { at + 8 ≤ length t.now }
-    ensures { result ≡ open_number 8 t.now at }
-{
-    wide64(t[at])
-        + 0x100 * wide64(t[at + 1])
-        + 0x10000 * wide64(t[at + 2])
-        + 0x1000000 * wide64(t[at + 3])
-        + 0x100000000 * wide64(t[at + 4])
-        + 0x10000000000 * wide64(t[at + 5])
-        + 0x1000000000000 * wide64(t[at + 6])
-        + 0x100000000000000 * wide64(t[at + 7])
-}
-
-// The number in the eight bytes from `at` on.
-pub fn get_u64(t: &[u8], at: usize) -> u64
-    requires { at + 8 ≤ length t.now }
-    ensures { result ≡ number_at 8 t.now at }
-{
-    open_u64(t, at)
-}
-
-// Writes v into the two bytes from `at` on.
-pub fn put_u16(t: &mut [u8], at: usize, v: u16)
-    requires { at + 2 ≤ length t.old }
-    ensures { t.new ≡ with_number 2 t.old at v }
-{
-    let high = v / 256;
-    t[at] = (v % 256) as u8;
-    t[at + 1] = (high % 256) as u8;
-}
-
-// Writes v into the four bytes from `at` on.
-pub fn put_u32(t: &mut [u8], at: usize, v: u32)
-    requires { at + 4 ≤ length t.old }
-    ensures { t.new ≡ with_number 4 t.old at v }
-{
-    let v1 = v / 256;
-    let v2 = v1 / 256;
-    let v3 = v2 / 256;
-    t[at] = (v % 256) as u8;
-    t[at + 1] = (v1 % 256) as u8;
-    t[at + 2] = (v2 % 256) as u8;
-    t[at + 3] = (v3 % 256) as u8;
+    t[at..at + N].copy_from_slice(&v.to_bytes());
 }

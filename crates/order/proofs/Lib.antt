@@ -1,6 +1,4 @@
--- What the proofs of the functions stand on: one turn of each loop, over plain lists.
-mod Insertion
+-- What the proofs of the functions stand on, over plain lists.
 mod Slipping
-mod Merging
-mod Halves
+mod Sorting
 mod Look

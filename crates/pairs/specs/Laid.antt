@@ -15,7 +15,7 @@ laid_on (p ∷ ps) l at (suc i) d h =
     (add-suc at i ∙ sym (suc-add at i))
     ∙ laid_on ps (set l at p) (suc at) i d (le_of_suc-le-suc h)
 
--- the same from the start: what a turn of the loop stores
+-- the same from the start: one entry more stands behind those laid already
 pub one_more :
     {A : Type 0} (ps l : List A) (i : ℕ) (d : A) → i < length ps
     → set (sets l 0 (take i ps)) i (get_or ps i d) ≡ sets l 0 (take (suc i) ps)

@@ -15,24 +15,19 @@ pub struct Pair {
     pub distance: u32,
 }
 
-// What a search answers: its pairs, of which the first n count, and the number that the call returns.
+// What a search answers: its pairs, of which the first n count, and the distances worked out.
 #[derive(Clone, Copy)]
 pub struct Answer {
     pub pairs: [Pair; NEAREST],
     pub n: usize,
-    pub refusal: u32,
+    pub count: u32,
 }
 
-// "From the list's start; later entries stay". The pairs are copied once, and then read where they stand.
+// "From the list's start; later entries stay".
 pub fn fill(list: &mut [Pair], answer: Answer)
     requires { (answer.n ≤ length list.old) × (answer.n ≤ most_nearest) }
     ensures { list.new ≡ sets list.old 0 (take answer.n answer.pairs) }
 {
     let n = answer.n;
-    let pairs = answer.pairs;
-    let mut i: usize = 0;
-    while i < n {
-        list[i] = pairs[i];
-        i = i + 1;
-    }
+    list[..n].copy_from_slice(&answer.pairs[..n]);
 }

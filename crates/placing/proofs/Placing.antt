@@ -4,6 +4,7 @@
 use Prim.Native.Nat.{ℕ, ◌+◌, ◌≤◌}
 use mathlib.Core.Path.{◌≡◌, sym, ap, ◌∙◌, subst}
 use mathlib.Core.List.{List}
+use Rattle.std.specs.Prelude.{None, Some}
 use native.Mathlib.Omega.{arith}
 use native.Mathlib.Decide.{ℕ_discrete}
 use lib.ListN.{length, set, length-set}
@@ -16,9 +17,11 @@ use Rattle.table.specs.Records.{records_at}
 use Rattle.table.specs.Size.{rows_are}
 use Rattle.writing.specs.Laws.{Became, became_then}
 use Rattle.judge.specs.WellFormed.{WellFormed}
+use Rattle.judge.specs.Decided.{formed_decided}
+use Rattle.judge.specs.Readable.{Readable}
 use Rattle.survey.specs.declared.Findings.{Findings}
 use Rattle.survey.specs.Survey.{used_in, root_of}
-use Rattle.survey.specs.Answers.{Answers}
+use Rattle.survey.specs.Answers.{Answers, tells_some}
 use Rattle.tree.specs.View.{Formed}
 use Rattle.view.specs.View.{view_of}
 use Rattle.view.specs.Formed.{formed_view}
@@ -40,15 +43,12 @@ use Rattle.table.specs.Stands.{
 }
 use Rattle.placing.specs.Hangable.{Hangable}
 use Rattle.placing.specs.HangableFrom.{hangable}
-use Rattle.view.specs.Readable.{formed_walkable}
+use Rattle.view.specs.Readable.{readable_walkable, rooted, rootless}
 use Rattle.placing.specs.Placeable.{Placeable}
 
-module _ {l : List ℕ} {f : Findings} {x : Newcomer} {arity : ℕ} (ok : Placeable l f x arity) where
+module _ {l : List ℕ} {s : ℕ} {f : Findings} {x : Newcomer} {arity : ℕ} (ok : Placeable l s f x arity) where
   abbrev n : ℕ
   n = records_in l
-
-  abbrev s : ℕ
-  s = f.lowest
 
   abbrev rows : List Record
   rows = records_of l
@@ -63,18 +63,38 @@ module _ {l : List ℕ} {f : Findings} {x : Newcomer} {arity : ℕ} (ok : Placea
   pub slot_stands : Stands l s
   slot_stands = stands_in l s ok.ready.slot_within
 
-  -- the definition, by the survey's answers
-  pub found_root : f.used ≡ 0 → placed (apart x.kind) arity s x rows ≡ as_root (apart x.kind) arity s x rows next
-  unfolding placed
-  found_root z =
-      rw (ok.ready.length_is, ← answers.used, z, answers.largest)
+  readable : Readable l
+  readable =
+      record {
+        size = ok.size;
+        formed =
+            (formed_decided n (record_of l)).passes
+            (subst (WellFormed n) (rows_are l ok.size) ok.ready.well_formed);
+      }
 
-  pub found_hanging :
-      (f.used ≡ 0 → ⊥)
-      → placed (apart x.kind) arity s x rows ≡ hanging (apart x.kind) arity s x rows next f.used f.root
+  -- the definition, by the survey's answers
+  pub found_root : f.root ≡ None → placed (apart x.kind) arity s x rows ≡ as_root (apart x.kind) arity s x rows next
   unfolding placed
-  found_hanging nz =
-      rw (ok.ready.length_is, ← answers.used, ne_eqb f.used 0 nz, answers.largest, answers.root)
+  found_root e =
+      rw (ok.ready.length_is, ← answers.used, ok.answers.used, rootless readable ok.answers.root e, answers.largest)
+
+  module _ {root : ℕ} (e : f.root ≡ Some root) where
+    some : 1 ≤ used_in n (at rows)
+    some = omega (arith, answers.used, ok.answers.used, rooted readable ok.answers.root e)
+
+    root_is : root ≡ root_of n (at rows)
+    root_is = (tells_some root answers.root e).0
+
+    pub found_hanging : placed (apart x.kind) arity s x rows ≡ hanging (apart x.kind) arity s x rows next f.used root
+    unfolding placed
+    found_hanging =
+        rw (
+          ok.ready.length_is,
+          ← answers.used,
+          ne_eqb f.used 0 (λ z. omega (arith, z, answers.used, some)),
+          answers.largest,
+          root_is,
+        )
 
   -- ---- the card is written
 
@@ -88,16 +108,16 @@ module _ {l : List ℕ} {f : Findings} {x : Newcomer} {arity : ℕ} (ok : Placea
     -- the root of a free table
     pub placed_first :
         {j : List ℕ}
-        → f.used ≡ 0
+        → f.root ≡ None
         → Became m s (fresh (brought (record_of m s)) next no_slot) j
         → ◌≡◌ {A = Placed} (record { rows = records_of j; count = 0 }) (placed (apart x.kind) arity s x rows)
     unfolding as_root
-    placed_first z seated =
+    placed_first e seated =
         let same = ap (λ (y : Newcomer). set rows s (fresh y next no_slot)) named_newcomer in
         ap
         (λ (rs : List Record). record { rows = rs; count = 0 })
         ((became_then written seated).records ∙ same)
-        ∙ sym (found_root z)
+        ∙ sym (found_root e)
 
     -- ---- nothing links to the slot
 
@@ -112,12 +132,9 @@ module _ {l : List ℕ} {f : Findings} {x : Newcomer} {arity : ℕ} (ok : Placea
           same = λ a ne. ap (λ (rs : List Record). at rs a) written.records ∙ get_or-set_other rows s a r free ne;
         }
 
-    module _ (nz : f.used ≡ 0 → ⊥) where
-      some : 1 ≤ used_in n (at rows)
-      some = omega (arith, answers.used)
-
+    module _ {root : ℕ} (told : f.root ≡ Some root) where
       formed : Formed (view_of (at rows)) n (root_of n (at rows))
-      formed = formed_view ok.ready.small ok.ready.shaped ok.ready.well_formed some
+      formed = formed_view ok.ready.small ok.ready.shaped ok.ready.well_formed (some told)
 
       unlinked : Unlinked waits rows (root_of n (at rows))
       unlinked =
@@ -126,18 +143,17 @@ module _ {l : List ℕ} {f : Findings} {x : Newcomer} {arity : ℕ} (ok : Placea
             children_stay = λ a b _ i. not_new ok.ready b (formed.child_used a b i);
           }
 
-      pub named_hangable : Hangable m x.kind arity s f.root f.used
+      pub named_hangable : Hangable m x.kind arity s root f.used
       named_hangable =
           let many = are_same l m written.same_length n (right_are l ok.size) in
-          let wf : WellFormed n (record_of l) = subst (WellFormed n) (rows_are l ok.size) ok.ready.well_formed in
-          rw (answers.root, answers.used)
+          rw (root_is told, answers.used)
           (hangable
           x.kind
           arity
           s
           rows
           waits
-          (walkable_same written.same_length counts slots (formed_walkable l (right_whole l ok.size) wf))
+          (walkable_same written.same_length counts slots (readable_walkable readable))
           (are_large m n many (right_most l ok.size))
           named_stands
           ok.ready.arity_to_8
@@ -146,7 +162,7 @@ module _ {l : List ℕ} {f : Findings} {x : Newcomer} {arity : ℕ} (ok : Placea
           ok.ready.small
           ok.ready.shaped
           ok.ready.well_formed
-          some
+          (some told)
           unlinked)
         where
           counts : (a : ℕ) → (record_of m a).count ≡ (record_of l a).count
@@ -168,30 +184,30 @@ module _ {l : List ℕ} {f : Findings} {x : Newcomer} {arity : ℕ} (ok : Placea
           ]
 
       same_hanging :
-          hanging (apart x.kind) arity s x (records_of m) next f.used f.root
-          ≡ hanging (apart x.kind) arity s x rows next f.used f.root
+          hanging (apart x.kind) arity s x (records_of m) next f.used root
+          ≡ hanging (apart x.kind) arity s x rows next f.used root
       same_hanging =
-          let u : Unlinked waits rows f.root = rw answers.root unlinked in
+          let u : Unlinked waits rows root = rw (root_is told) unlinked in
           let count =
-          hanging_count (apart x.kind) arity s x next f.used f.root waits (records_of m) rows agree u in
+          hanging_count (apart x.kind) arity s x next f.used root waits (records_of m) rows agree u in
           let both =
-          hanging_agree (apart x.kind) arity s x next f.used f.root waits (records_of m) rows agree u
+          hanging_agree (apart x.kind) arity s x next f.used root waits (records_of m) rows agree u
           (omega (arith, ok.ready.slot_within, ok.ready.length_is))
-          (omega (arith, answers.used, some)) in
-          let same : (hanging (apart x.kind) arity s x (records_of m) next f.used f.root).rows
-          ≡ (hanging (apart x.kind) arity s x rows next f.used f.root).rows =
+          (omega (arith, answers.used, some told)) in
+          let same : (hanging (apart x.kind) arity s x (records_of m) next f.used root).rows
+          ≡ (hanging (apart x.kind) arity s x rows next f.used root).rows =
           ext_get_or free _ _ both.long (λ a _. both.same a (λ z. z.1 z.0)) in
           λ i. record { rows = same i; count = count i }
 
       -- below the record on which it hangs
       pub placed_later :
           (p : Placed)
-          → p ≡ hanging (apart x.kind) arity s (brought (at (records_of m) s)) (records_of m) next f.used f.root
+          → p ≡ hanging (apart x.kind) arity s (brought (at (records_of m) s)) (records_of m) next f.used root
           → p ≡ placed (apart x.kind) arity s x rows
       placed_later p e =
           let even = whole_same l m written.same_length (right_whole l ok.size) in
           let comes : brought (at (records_of m) s) ≡ x = ap brought (records_at m even s) ∙ named_newcomer in
           e
-          ∙ ap (λ (y : Newcomer). hanging (apart x.kind) arity s y (records_of m) next f.used f.root) comes
+          ∙ ap (λ (y : Newcomer). hanging (apart x.kind) arity s y (records_of m) next f.used root) comes
           ∙ same_hanging
-          ∙ sym (found_hanging nz)
+          ∙ sym (found_hanging told)

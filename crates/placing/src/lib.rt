@@ -11,46 +11,47 @@ ghost use Rattle.newcomer.specs.Newcomer.{newcomer};
 ghost use Rattle.placing.specs.Hangable.{Hangable, leaves, hung_in};
 ghost use Rattle.placing.specs.Placeable.{Placeable};
 
-use descent::descend;
-use distance::Signature;
+use descent::{Tree, descend};
+use distance::Query;
 use newcomer::{adopt, name, seat};
 use survey::Findings;
-use table::NO_SLOT;
 
 // The newcomer whose card, kind and signature stand in slot s. Returns the distances worked out.
-pub fn hang(
-    t: &mut [u8],
-    s: usize,
-    kind: u8,
-    arity: u8,
-    root: usize,
-    depth: usize,
-    timestamp: u32,
-) -> u32
-    requires { Hangable t.old kind arity s root depth }
-    ensures { (leaves t.new result ≡ hung_in t.old kind arity s root depth timestamp)
-        × (result ≤ 1 + most_children * depth) }
+pub fn hang(t: &mut [u8], s: usize, tree: Tree, timestamp: u32) -> u32
+    requires { Hangable t.old tree.kind tree.arity s tree.root tree.depth }
+    ensures { (leaves t.new result
+        ≡ hung_in t.old tree.kind tree.arity s tree.root tree.depth timestamp)
+        × (result ≤ 1 + most_children * tree.depth) }
 {
     let x = table::signature_of(t, s);
-    let host = descend(t, kind, x, arity as usize, root, depth);
+    let host = descend(t, tree, x);
     adopt(t, host.slot, s);
-    seat(t, s, timestamp, host.slot as u16);
+    seat(t, s, timestamp, Some(host.slot));
     host.count
 }
 
-// The newcomer in the lowest free slot of the table that was surveyed: the root of a free table, hung in a used one.
-pub fn place(t: &mut [u8], found: Findings, card: u32, kind: u8, arity: u8, x: Signature) -> u32
-    requires { Placeable t.old found (newcomer card kind x.readings) arity }
+// The newcomer in a free slot of the table that was surveyed: the root of a free table, hung in a used one. Returns the
+// distances worked out.
+pub fn place(t: &mut [u8], s: usize, found: Findings, card: u32, arity: u8, x: Query) -> u32
+    requires { Placeable t.old s found (newcomer card x.kind x.signature.readings) arity }
     ensures { leaves t.new result
-        ≡ placed (apart kind) arity found.lowest (newcomer card kind x.readings) (records_of t.old) }
+        ≡ placed (apart x.kind) arity s (newcomer card x.kind x.signature.readings) (records_of t.old) }
 {
-    let s = found.lowest;
     let timestamp = found.largest + 1;
-    name(t, s, card, kind, x);
-    if found.used == 0 {
-        seat(t, s, timestamp, NO_SLOT);
-        0
-    } else {
-        hang(t, s, kind, arity, found.root, found.used, timestamp)
+    name(t, s, card, x.kind, x.signature);
+    match found.root {
+        None => {
+            seat(t, s, timestamp, None);
+            0
+        }
+        Some(root) => {
+            let tree = Tree {
+                kind: x.kind,
+                arity: usize::from(arity),
+                root,
+                depth: found.used,
+            };
+            hang(t, s, tree, timestamp)
+        }
     }
 }

@@ -7,6 +7,7 @@ ghost use Rattle.std.specs.Prelude.{◌≡◌};
 ghost use Rattle.writing.specs.Clear.{Cleared, clear_of};
 ghost use Rattle.insert.specs.Insert.{insert_of};
 ghost use Rattle.refusals.specs.Outcome.{Outcome};
+ghost use Rattle.refusals.specs.Told.{told, count_in, distances_in, found_in};
 ghost use Rattle.delete.specs.Delete.{delete_of};
 ghost use Rattle.search.specs.Search.{search_of};
 ghost use Rattle.search.specs.Search.{Outcome as Listing};
@@ -19,12 +20,31 @@ ghost use Rattle.inventory.specs.Card.{one_card_of};
 ghost use Rattle.inventory.specs.Card.{Outcome as Card};
 
 use pairs::Pair;
+use refusals::{Found, Refusal};
+
+// Tells what a call counts where the caller points, 0 if it is refused, and answers its number.
+fn tell_count(answer: Result<u32, Refusal>, count: &mut u32) -> u32
+    ensures { (result ≡ told answer) × (count.new ≡ count_in answer) }
+{
+    *count = refusals::count_in(answer);
+    u32::from(refusals::told(answer))
+}
+
+// Tells what a search counts, likewise.
+fn tell_counts(answer: Result<Found, Refusal>, count: &mut u32, found: &mut u32) -> u32
+    ensures { (result ≡ told answer) × (count.new ≡ distances_in answer) × (found.new ≡ found_in answer) }
+{
+    let counts = refusals::counts_in(answer);
+    *count = counts.count;
+    *found = counts.found;
+    u32::from(refusals::told(answer))
+}
 
 #[unsafe(no_mangle)]
 pub extern "C" fn plotvuga_clear(table: &mut [u8]) -> u32
     ensures { ◌≡◌ {A = Cleared} (record { refusal = result; table = table.new }) (clear_of table.old) }
 {
-    writing::clear(table) as u32
+    u32::from(refusals::told(writing::clear(table)))
 }
 
 #[unsafe(no_mangle)]
@@ -40,9 +60,7 @@ pub extern "C" fn plotvuga_insert(
         (record { refusal = result; count = count.new; table = table.new })
         (insert_of table.old card kind arity signature.now) }
 {
-    let r = insert::insert(table, card, kind, arity, signature);
-    *count = r.count;
-    r.refusal as u32
+    tell_count(insert::insert(table, card, kind, arity, signature), count)
 }
 
 #[unsafe(no_mangle)]
@@ -51,9 +69,7 @@ pub extern "C" fn plotvuga_delete(table: &mut [u8], card: u32, arity: u8, count:
         (record { refusal = result; count = count.new; table = table.new })
         (delete_of table.old card arity) }
 {
-    let r = delete::delete(table, card, arity);
-    *count = r.count;
-    r.refusal as u32
+    tell_count(delete::delete(table, card, arity), count)
 }
 
 #[unsafe(no_mangle)]
@@ -70,14 +86,13 @@ pub extern "C" fn plotvuga_search(
         (record { refusal = result; count = count.new; found = found.new; list = list.new })
         (search_of table.now kind signature.now radius list.old) }
 {
-    let r = search::search(table, kind, signature, radius, list);
-    *count = r.count;
-    *found = r.found;
-    r.refusal as u32
+    tell_counts(
+        search::search(table, kind, signature, radius, list),
+        count,
+        found,
+    )
 }
 
-// A list of structs is lent, so what is here is proved by hand: the core is told how long the list is, and answers by
-// value what is to be laid over it.
 #[unsafe(no_mangle)]
 pub extern "C" fn plotvuga_nearest(
     table: &[u8],
@@ -92,17 +107,18 @@ pub extern "C" fn plotvuga_nearest(
         (record { refusal = result; count = count.new; found = found.new; list = list.new })
         (nearest_of table.now kind signature.now k list.old) }
 {
-    let room = list.len();
-    let answer = nearest::nearest(table, kind, signature, k, room, count, found);
-    pairs::fill(list, answer);
-    answer.refusal
+    tell_counts(
+        nearest::lay_nearest(table, kind, signature, k, list),
+        count,
+        found,
+    )
 }
 
 #[unsafe(no_mangle)]
 pub extern "C" fn plotvuga_check(table: &[u8]) -> u32
     ensures { result ≡ check_of table.now }
 {
-    soundness::check(table) as u32
+    u32::from(refusals::told(soundness::check(table)))
 }
 
 #[unsafe(no_mangle)]
@@ -111,9 +127,7 @@ pub extern "C" fn plotvuga_cards(table: &[u8], list: &mut [u32], found: &mut u32
         (record { refusal = result; found = found.new; list = list.new })
         (all_cards_of table.now list.old) }
 {
-    let listed = inventory::cards(table, list);
-    *found = listed.found;
-    listed.refusal as u32
+    tell_count(inventory::cards(table, list), found)
 }
 
 #[unsafe(no_mangle)]
@@ -122,7 +136,7 @@ pub extern "C" fn plotvuga_card(table: &[u8], card: u32, row: &mut [u8], kind: &
         (record { refusal = result; kind = kind.new; row = row.new })
         (one_card_of table.now card row.old) }
 {
-    let r = inventory::card(table, card, row);
-    *kind = r.kind;
-    r.refusal as u32
+    let answer = inventory::card(table, card, row);
+    *kind = answer.unwrap_or(0);
+    u32::from(refusals::told(answer))
 }

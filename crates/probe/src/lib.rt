@@ -7,7 +7,6 @@ ghost use Rattle.survey.specs.Survey.{used_in, lowest_free, root_of, kind_of, la
 ghost use Rattle.probe.specs.Probe.{distance_probe, judge_probe, asked, slot_question};
 ghost use Rattle.probe.specs.Tells.{Tells, Small, Widened};
 
-use refusals::DONE;
 use refusals::limit::SIGNATURE;
 use survey::Findings;
 use table::RECORD;
@@ -36,7 +35,7 @@ pub extern "C" fn probe_distance(kind: u8, a: &[u8], b: &[u8]) -> u32
 pub extern "C" fn probe_judge(t: &[u8]) -> u32
     ensures { result ≡ judge_probe t.now }
 {
-    admission::admit(t).refusal as u32
+    u32::from(refusals::told(admission::admit(t)))
 }
 
 // Clears a table.
@@ -44,7 +43,7 @@ pub extern "C" fn probe_judge(t: &[u8]) -> u32
 pub extern "C" fn probe_clear(t: &mut [u8]) -> u32
     ensures { ◌≡◌ {A = Cleared} (record { refusal = result; table = t.new }) (clear_of t.old) }
 {
-    writing::clear(t) as u32
+    u32::from(refusals::told(writing::clear(t)))
 }
 
 // The answers to the small questions, as numbers of one width.
@@ -57,17 +56,17 @@ struct Told {
     kind: u32,
 }
 
-// Of findings in a table: slots and counts are at most its records.
-fn widened(f: Findings) -> Told
-    requires { Small f }
-    ensures { Widened f result }
+// Of findings in a table of n records: slots and counts are at most its records, and n stands for no slot.
+fn widened(n: usize, f: Findings) -> Told
+    requires { Small n f }
+    ensures { Widened n f result }
 {
     Told {
         used: f.used as u32,
-        lowest: f.lowest as u32,
+        lowest: f.lowest.unwrap_or(n) as u32,
         largest: f.largest,
-        root: f.root as u32,
-        kind: f.kind as u32,
+        root: f.root.unwrap_or(n) as u32,
+        kind: u32::from(f.kind),
     }
 }
 
@@ -75,17 +74,15 @@ fn widened(f: Findings) -> Told
 fn tell(t: &[u8]) -> Told
     ensures { Tells t.now result }
 {
-    let admitted = admission::admit(t);
-    if admitted.refusal == DONE {
-        widened(admitted.found)
-    } else {
-        Told {
+    match admission::admit(t) {
+        Ok(found) => widened(t.len() / RECORD, found),
+        Err(_) => Told {
             used: NO_ANSWER,
             lowest: NO_ANSWER,
             largest: NO_ANSWER,
             root: NO_ANSWER,
             kind: NO_ANSWER,
-        }
+        },
     }
 }
 
@@ -128,13 +125,14 @@ pub extern "C" fn probe_kind(t: &[u8]) -> u32
 pub extern "C" fn probe_slot_of(t: &[u8], card: u32) -> u32
     ensures { result ≡ asked t.now (slot_question card) }
 {
-    if admission::admit(t).refusal == DONE {
-        let n = t.len() / RECORD;
-        if card == 0 {
-            return n as u32;
+    let n = t.len() / RECORD;
+    match admission::admit(t) {
+        Ok(_) => {
+            if card == 0 {
+                return n as u32;
+            }
+            survey::slot_of_card(t, n, card).unwrap_or(n) as u32
         }
-        survey::slot_of_card(t, n, card) as u32
-    } else {
-        NO_ANSWER
+        Err(_) => NO_ANSWER,
     }
 }

@@ -3,3 +3,4 @@ pub mod Limits
 pub mod Refusal
 pub mod First
 pub mod Outcome
+pub mod Told

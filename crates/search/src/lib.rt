@@ -1,108 +1,91 @@
 // Range search (001, Algorithm 2): the call, with its refusals.
 #![tactic(auto)]
 
-ghost use Rattle.std.specs.Prelude.{◌≡◌, List, ℕ, ◌^◌, ◌≤◌, ◌<◌, length};
-ghost use Rattle.distance.specs.Signature.{Fit};
+ghost use Rattle.std.specs.Prelude.{◌≡◌, List, ℕ, ◌≤◌, length};
 ghost use Rattle.table.specs.Record.{record_of};
 ghost use Rattle.table.specs.Table.{records_in};
 ghost use Rattle.survey.specs.Survey.{used_in, root_of};
 ghost use Rattle.judge.specs.Readable.{Readable};
-ghost use Rattle.admission.specs.Admission.{Admits};
+ghost use Rattle.refusals.specs.Refusal.{first_of, done};
+ghost use Rattle.refusals.specs.Told.{told, distances_in, found_in};
+ghost use Rattle.survey.specs.Answers.{Answers};
+ghost use Rattle.admission.specs.Admission.{admission_tests};
 ghost use Rattle.search.specs.Search.{outcome, refusal_of, listing_of, search_of};
 
-use admission::Admitted;
 use admission::query::{known_query, other_kind};
-use distance::Signature;
-use refusals::{ARGUMENT, DONE, KIND, SHORT};
+use distance::Query;
+use refusals::{Found, Refusal};
+use steps::{Asked, Visit};
+use survey::Findings;
 use walk::Reached;
 
 // "No bound on time": above every timestamp that four bytes hold.
 const NO_BOUND: u64 = 4294967296;
 
-// What a search returns: 0 or the refusal's number, the distances worked out, and the cards listed.
-#[derive(Clone, Copy)]
-pub struct Found {
-    pub refusal: u8,
-    pub count: u32,
-    pub found: u32,
-}
+// Nothing is compared and nothing found in a free table.
+const NOTHING: Found = Found { count: 0, found: 0 };
 
-// The first refusal of a search, 0 if there is none: by what was learnt of its table, by what it is told, and by the
-// room in its list.
-fn refusal_of(lent: Admitted, kind: u8, signature: &[u8], room: usize) -> u8
-    ensures { (l : List ℕ) → Admits l lent → result ≡ refusal_of l kind signature.now room }
+// The refusals of an admitted table, in their order: by what the search is told, by the table's kind, and by the room
+// in the list.
+fn own_tests(there: Findings, kind: u8, signature: &[u8], room: usize) -> Result<(), Refusal>
+    ensures { (l : List ℕ)
+        → first_of (admission_tests l) ≡ done
+        → Answers (records_in l) (record_of l) there
+        → told result ≡ refusal_of l kind signature.now room }
 {
-    if lent.refusal != DONE {
-        return lent.refusal;
-    }
     if !known_query(kind, signature) {
-        return ARGUMENT;
+        return Err(Refusal::Argument);
     }
-    let found = lent.found;
-    if other_kind(found, kind) {
-        return KIND;
+    if other_kind(there, kind) {
+        return Err(Refusal::Kind);
     }
-    if room < found.used {
-        return SHORT;
+    if room < there.used {
+        return Err(Refusal::Short);
     }
-    DONE
+    Ok(())
 }
 
-// The search of a table that no test refuses, from its root on.
-fn accepted(
-    t: &[u8],
-    kind: u8,
-    q: Signature,
-    radius: u64,
-    list: &mut [u32],
-    used: usize,
-    root: usize,
-) -> Found
-    requires readable { Readable t.now × Fit q.readings × (radius < 2 ^ 32) × (used ≤ length list.old) }
-    requires used_value { (used ≡ used_in (records_in t.now) (record_of t.now))
+// The search of a used table that no test refuses, from its root on.
+fn accepted(t: &[u8], asked: Asked, list: &mut [u32], used: usize, root: usize) -> Found
+    requires readable { Readable t.now × (used ≤ length list.old) }
+    requires there { (1 ≤ used) × (used ≡ used_in (records_in t.now) (record_of t.now))
         × (root ≡ root_of (records_in t.now) (record_of t.now)) }
-    ensures { outcome result.refusal result.count result.found list.new
-        ≡ listing_of t.now kind q.readings radius list.old }
+    ensures { outcome done result.count result.found list.new
+        ≡ listing_of t.now asked.query.kind asked.query.signature.readings asked.radius list.old }
 {
-    if used == 0 {
-        return Found {
-            refusal: DONE,
-            count: 0,
-            found: 0,
-        };
-    }
-    let away = steps::away_from(t, kind, q, root);
+    let visit = Visit {
+        slot: root,
+        away: u64::from(table::away_from(t, root, asked.query)),
+        bound: NO_BOUND,
+    };
     let start = Reached { found: 0, count: 1 };
-    let r = walk::walk(t, kind, q, radius, list, root, away, NO_BOUND, start, used);
+    let r = walk::walk(t, asked, list, visit, start, used);
     Found {
-        refusal: DONE,
         count: r.count as u32,
         found: r.found as u32,
     }
 }
 
-fn refused(refusal: u8) -> Found
-    ensures { (result.refusal ≡ refusal) × (result.count ≡ 0) × (result.found ≡ 0) }
-{
-    Found {
-        refusal: refusal,
-        count: 0,
-        found: 0,
-    }
-}
-
 // Lists the cards at most `radius` from the signature, from the list's start; later entries stay. A refused call leaves
 // the list.
-pub fn search(t: &[u8], kind: u8, signature: &[u8], radius: u32, list: &mut [u32]) -> Found
-    ensures { outcome result.refusal result.count result.found list.new
+pub fn search(
+    t: &[u8],
+    kind: u8,
+    signature: &[u8],
+    radius: u32,
+    list: &mut [u32],
+) -> Result<Found, Refusal>
+    ensures { outcome (told result) (distances_in result) (found_in result) list.new
         ≡ search_of t.now kind signature.now radius list.old }
 {
-    let lent = admission::admit(t);
-    let refusal = refusal_of(lent, kind, signature, list.len());
-    if refusal != DONE {
-        return refused(refusal);
-    }
-    let q = distance::signature_at(signature, 0);
-    let found = lent.found;
-    accepted(t, kind, q, radius as u64, list, found.used, found.root)
+    let there = admission::admit(t)?;
+    own_tests(there, kind, signature, list.len())?;
+    let Some(root) = there.root else {
+        return Ok(NOTHING);
+    };
+    let query = Query {
+        kind,
+        signature: distance::signature_at(signature, 0),
+    };
+    Ok(accepted(t, Asked { query, radius }, list, there.used, root))
 }

@@ -6,43 +6,51 @@
 
 ghost use Rattle.std.specs.Prelude.{◌≡◌, ◌<◌};
 ghost use Rattle.distance.specs.Kind.{apart};
-ghost use Rattle.table.specs.Record.{record_of};
+ghost use Rattle.table.specs.Record.{record_of, slot_told};
 ghost use Rattle.table.specs.Table.{records_in};
 ghost use Rattle.table.specs.Stands.{Stands};
+ghost use Rattle.refusals.specs.Told.{told};
 ghost use Rattle.soundness.specs.Soundness.{check_of};
 ghost use Rattle.soundness.specs.Climb.{sibling_passes, siblings_pass, passes, climb, record_passes, route};
-ghost use Rattle.soundness.specs.HoldsCard.{FormedTable, HoldsCard, CardOrNone};
+ghost use Rattle.soundness.specs.HoldsCard.{FormedTable, HoldsCard, CardIfAny};
 
-use distance::Signature;
-use refusals::{DONE, LOOSE};
-use table::{NO_SLOT, RECORD};
+use distance::Query;
+use refusals::Refusal;
+use table::RECORD;
+
+// The record that climbs: what it is compared by, and its timestamp.
+#[derive(Clone, Copy)]
+struct Climber {
+    query: Query,
+    timestamp: u32,
+}
 
 // If c is older than x, is x no farther from b than from c? From b it is `far`, so b itself costs no second distance.
-fn sibling_ok(t: &[u8], kind: u8, x: Signature, time: u32, far: u32, b: usize, c: usize) -> bool
+fn sibling_ok(t: &[u8], x: Climber, far: u32, b: usize, c: usize) -> bool
     requires { Stands t.now c
-        × (far ≡ apart kind x.readings (record_of t.now b).readings) }
-    ensures { result ≡ sibling_passes (record_of t.now) kind x.readings time b c }
+        × (far ≡ apart x.query.kind x.query.signature.readings (record_of t.now b).readings) }
+    ensures { result ≡ sibling_passes (record_of t.now) x.query.kind x.query.signature.readings x.timestamp b c }
 {
     if c == b {
         true
-    } else if table::timestamp_of(t, c) < time {
-        far <= table::away_from(t, c, kind, x)
+    } else if table::timestamp_of(t, c) < x.timestamp {
+        far <= table::away_from(t, c, x.query)
     } else {
         true
     }
 }
 
 // Is x no farther from b than from any child of p that is older than x? The first i children are looked at.
-fn siblings_ok(t: &[u8], kind: u8, x: Signature, time: u32, far: u32, b: usize, p: usize) -> bool
+fn siblings_ok(t: &[u8], x: Climber, far: u32, b: usize, p: usize) -> bool
     requires { FormedTable t.now
         × HoldsCard t.now p
-        × (far ≡ apart kind x.readings (record_of t.now b).readings) }
-    ensures { result ≡ siblings_pass (record_of t.now) kind x.readings time b p }
+        × (far ≡ apart x.query.kind x.query.signature.readings (record_of t.now b).readings) }
+    ensures { result ≡ siblings_pass (record_of t.now) x.query.kind x.query.signature.readings x.timestamp b p }
 {
-    let count = table::count_of(t, p) as usize;
+    let count = table::children_of(t, p);
     for i in 0..count {
         let c = table::child_of(t, p, i);
-        if !sibling_ok(t, kind, x, time, far, b, c) {
+        if !sibling_ok(t, x, far, b, c) {
             return false;
         }
     }
@@ -50,17 +58,15 @@ fn siblings_ok(t: &[u8], kind: u8, x: Signature, time: u32, far: u32, b: usize, 
 }
 
 // What soundness asks of x and a record b above it: the radius of b, and the siblings of b unless it is the root.
-fn above_ok(t: &[u8], kind: u8, x: Signature, time: u32, b: usize) -> bool
+fn above_ok(t: &[u8], x: Climber, b: usize) -> bool
     requires { FormedTable t.now × HoldsCard t.now b }
-    ensures { result ≡ passes (record_of t.now) kind x.readings time b }
+    ensures { result ≡ passes (record_of t.now) x.query.kind x.query.signature.readings x.timestamp b }
 {
-    let far = table::away_from(t, b, kind, x);
+    let far = table::away_from(t, b, x.query);
     if far <= table::radius_of(t, b) {
-        let p = table::parent_of(t, b);
-        if p == NO_SLOT {
-            true
-        } else {
-            siblings_ok(t, kind, x, time, far, b, p as usize)
+        match table::parent_of(t, b) {
+            None => true,
+            Some(p) => siblings_ok(t, x, far, b, p),
         }
     } else {
         false
@@ -68,22 +74,20 @@ fn above_ok(t: &[u8], kind: u8, x: Signature, time: u32, b: usize) -> bool
 }
 
 // The climb from b to the root. No way up has more steps than the table has records, so the levels never run out.
-fn climb_ok(t: &[u8], kind: u8, x: Signature, time: u32, from: u16, levels: usize) -> bool
-    requires { FormedTable t.now × CardOrNone t.now from }
-    ensures { result ≡ climb (record_of t.now) kind x.readings time levels from }
+fn climb_ok(t: &[u8], x: Climber, from: Option<usize>, levels: usize) -> bool
+    requires { FormedTable t.now × CardIfAny t.now from }
+    ensures { result
+        ≡ climb (record_of t.now) x.query.kind x.query.signature.readings x.timestamp levels (slot_told from) }
 {
     let mut b = from;
-    let mut left = levels;
-    while 0 < left {
-        if b == NO_SLOT {
+    for _ in 0..levels {
+        let Some(above) = b else {
             return true;
-        }
-        let above = b as usize;
-        if !above_ok(t, kind, x, time, above) {
+        };
+        if !above_ok(t, x, above) {
             return false;
         }
         b = table::parent_of(t, above);
-        left -= 1;
     }
     true
 }
@@ -97,11 +101,14 @@ fn record_ok(t: &[u8], x: usize) -> bool
     if table::card_of(t, x) == 0 {
         true
     } else {
-        let kind = table::kind_of(t, x);
-        let signature = table::signature_of(t, x);
-        let time = table::timestamp_of(t, x);
-        let from = table::parent_of(t, x);
-        climb_ok(t, kind, signature, time, from, t.len() / RECORD)
+        let climber = Climber {
+            query: Query {
+                kind: table::kind_of(t, x),
+                signature: table::signature_of(t, x),
+            },
+            timestamp: table::timestamp_of(t, x),
+        };
+        climb_ok(t, climber, table::parent_of(t, x), t.len() / RECORD)
     }
 }
 
@@ -119,16 +126,13 @@ fn all_ok(t: &[u8]) -> bool
     true
 }
 
-// Whether the table is sound: 0, or the refusal's number. It never writes.
-pub fn check(t: &[u8]) -> u8
-    ensures { result ≡ check_of t.now }
+// Whether the table is sound. It never writes.
+pub fn check(t: &[u8]) -> Result<(), Refusal>
+    ensures { told result ≡ check_of t.now }
 {
-    let refusal = admission::admit(t).refusal;
-    if refusal != DONE {
-        return refusal;
-    }
+    admission::admit(t)?;
     if !all_ok(t) {
-        return LOOSE;
+        return Err(Refusal::Loose);
     }
-    DONE
+    Ok(())
 }

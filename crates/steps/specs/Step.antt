@@ -4,6 +4,7 @@ use Rattle.distance.specs.Kind.{apart}
 use Rattle.distance.specs.declared.Signature.{Signature}
 use Rattle.table.specs.Record.{Record, record_of}
 use Rattle.tree.specs.Slots.{keep}
+use Rattle.steps.specs.declared.Asked.{Asked}
 
 -- ---- what is asked
 
@@ -20,6 +21,10 @@ asked R kind q r = record { records = R; kind = kind; readings = q; radius = r }
 -- of the records that the bytes l hold
 abbrev pub query : List ℕ → ℕ → Signature → ℕ → Query
 query l kind q r = asked (record_of l) kind q.readings r
+
+-- .. what the code asks of them
+abbrev pub asked_of : List ℕ → Asked → Query
+asked_of l a = query l a.query.kind a.query.signature a.radius
 
 -- the distance of slot a's record to the query
 abbrev pub away_from : (ℕ → Record) → ℕ → List ℕ → ℕ → ℕ

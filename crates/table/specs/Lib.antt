@@ -13,3 +13,5 @@ pub mod Records
 pub mod Size
 pub mod Fitting
 pub mod RoundTrip
+-- Laws: what a parent that was read tells.
+pub mod Told

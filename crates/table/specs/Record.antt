@@ -1,5 +1,5 @@
 -- "The record, 64 bytes, no header": its fields, and where each stands. Other files take the places from here.
-use Rattle.std.specs.Prelude.{ℕ, ◌+◌, ◌*◌, ◌≤◌, List, Bool, leb, get_or, take, replicate}
+use Rattle.std.specs.Prelude.{ℕ, ◌+◌, ◌*◌, ◌≤◌, List, Bool, Option, None, Some, leb, get_or, take, replicate}
 use Rattle.places.specs.Row.{row_to}
 use Rattle.number.specs.Number.{number_at}
 use Rattle.distance.specs.Signature.{readings_at}
@@ -20,6 +20,11 @@ pub record Record : Type 0 where
 -- "65,535 for the root", and past the count of children
 abbrev pub no_slot : ℕ
 no_slot = 65535
+
+-- a parent's slot as a record's bytes tell it: the slot, or 65,535 where there is none
+abbrev pub slot_told : Option ℕ → ℕ
+slot_told None = no_slot
+slot_told (Some p) = p
 
 -- "A free record is 64 zero bytes"
 abbrev pub free : Record

@@ -1,42 +1,67 @@
 // The fields of the record in slot s, read where they stand.
-ghost use Rattle.std.specs.Prelude.{◌≡◌, ◌≤◌, ◌<◌};
+ghost use Rattle.std.specs.Prelude.{◌≡◌, ◌+◌, ◌≤◌, ◌<◌, IfSome, eqb};
+ghost use Rattle.number.specs.Number.{number_at};
 ghost use Rattle.places.specs.Decides.{Decides};
 ghost use Rattle.distance.specs.Signature.{word_of};
 ghost use Rattle.distance.specs.Laws.{farthest};
 ghost use Rattle.distance.specs.Kind.{apart};
 ghost use Rattle.refusals.specs.Limits.{most_children};
-ghost use Rattle.table.specs.Record.{record_of, slot, free};
+ghost use Rattle.table.specs.Record.{record_of, slot, slot_told, no_slot, free, record_length, place_of};
 ghost use Rattle.table.specs.Stands.{Stands};
 
-use super::layout::{COUNT, KIND, PARENT, RADIUS, RECORD, SIGNATURE, SLOTS, TIMESTAMP};
-use distance::Signature;
+use super::layout::{COUNT, KIND, NO_SLOT, PARENT, RADIUS, RECORD, SIGNATURE, SLOTS, TIMESTAMP};
+use distance::{Query, Signature};
+use number::LowByteFirst;
+
+// The number that starts `from` bytes into the record.
+fn field<const N: usize, T: LowByteFirst<N>>(t: &[u8], s: usize, from: usize) -> T
+    requires { Stands t.now s × (from + N ≤ record_length) }
+    ensures { T.value result ≡ number_at N t.now (place_of s + from) }
+{
+    number::get(t, s * RECORD + from)
+}
 
 pub fn card_of(t: &[u8], s: usize) -> u32
     requires { Stands t.now s }
     ensures { result ≡ (record_of t.now s).card }
 {
-    number::get_u32(t, s * RECORD)
+    field(t, s, 0)
 }
 
 pub fn timestamp_of(t: &[u8], s: usize) -> u32
     requires { Stands t.now s }
     ensures { result ≡ (record_of t.now s).timestamp }
 {
-    number::get_u32(t, s * RECORD + TIMESTAMP)
+    field(t, s, TIMESTAMP)
 }
 
 pub fn radius_of(t: &[u8], s: usize) -> u32
     requires { Stands t.now s }
     ensures { result ≡ (record_of t.now s).radius }
 {
-    number::get_u32(t, s * RECORD + RADIUS)
+    field(t, s, RADIUS)
 }
 
-pub fn parent_of(t: &[u8], s: usize) -> u16
+// The parent's slot; a root has none, and then its two bytes are 65,535.
+pub fn parent_of(t: &[u8], s: usize) -> Option<usize>
     requires { Stands t.now s }
-    ensures { result ≡ (record_of t.now s).parent }
+    ensures { (slot_told result ≡ (record_of t.now s).parent) × IfSome result (λ p. p < no_slot) }
 {
-    number::get_u16(t, s * RECORD + PARENT)
+    let parent: u16 = field(t, s, PARENT);
+    if parent == NO_SLOT {
+        None
+    } else {
+        Some(usize::from(parent))
+    }
+}
+
+// Is the record in slot p its parent? One comparison, in the pass that looks at every child.
+pub fn is_child_of(t: &[u8], s: usize, p: usize) -> bool
+    requires { Stands t.now s }
+    ensures { result ≡ eqb (record_of t.now s).parent p }
+{
+    let parent: u16 = field(t, s, PARENT);
+    usize::from(parent) == p
 }
 
 pub fn count_of(t: &[u8], s: usize) -> u8
@@ -58,7 +83,7 @@ pub fn slot_of(t: &[u8], s: usize, i: usize) -> u16
     requires { Stands t.now s × (i < most_children) }
     ensures { result ≡ slot (record_of t.now s) i }
 {
-    number::get_u16(t, s * RECORD + SLOTS + 2 * i)
+    field(t, s, SLOTS + 2 * i)
 }
 
 // How many children the record has, as a number of turns.
@@ -66,7 +91,7 @@ pub fn children_of(t: &[u8], s: usize) -> usize
     requires { Stands t.now s }
     ensures { result ≡ (record_of t.now s).count }
 {
-    count_of(t, s) as usize
+    usize::from(count_of(t, s))
 }
 
 // Child slot i as a slot to read on from.
@@ -74,7 +99,7 @@ pub fn child_of(t: &[u8], s: usize, i: usize) -> usize
     requires { Stands t.now s × (i < most_children) }
     ensures { result ≡ slot (record_of t.now s) i }
 {
-    slot_of(t, s, i) as usize
+    usize::from(slot_of(t, s, i))
 }
 
 // Child slots 4k to 4k + 3 as one number, the first lowest.
@@ -82,7 +107,7 @@ pub fn four_slots(t: &[u8], s: usize, k: usize) -> u64
     requires { Stands t.now s × (k < 2) }
     ensures { result ≡ word_of (record_of t.now s).slots k }
 {
-    number::get_u64(t, s * RECORD + SLOTS + 8 * k)
+    field(t, s, SLOTS + 8 * k)
 }
 
 pub fn signature_of(t: &[u8], s: usize) -> Signature
@@ -93,11 +118,12 @@ pub fn signature_of(t: &[u8], s: usize) -> Signature
 }
 
 // The distance of the record to q: the one place where a stored signature is compared.
-pub fn away_from(t: &[u8], s: usize, kind: u8, q: Signature) -> u32
+pub fn away_from(t: &[u8], s: usize, q: Query) -> u32
     requires { Stands t.now s }
-    ensures { (result ≡ apart kind (record_of t.now s).readings q.readings) × (result ≤ farthest) }
+    ensures { (result ≡ apart q.kind (record_of t.now s).readings q.signature.readings)
+        × (result ≤ farthest) }
 {
-    distance::apart(kind, signature_of(t, s), q)
+    distance::apart(q.kind, signature_of(t, s), q.signature)
 }
 
 // Whether the record is free, that is, all zero. At each turn its first k words of eight bytes are zero.
@@ -105,8 +131,8 @@ pub fn is_free(t: &[u8], s: usize) -> bool
     requires { Stands t.now s }
     ensures { Decides result (record_of t.now s ≡ free) }
 {
-    for k in 0..8usize {
-        if number::get_u64(t, s * RECORD + 8 * k) != 0 {
+    for k in 0..8 {
+        if field::<8, u64>(t, s, 8 * k) != 0 {
             return false;
         }
     }

@@ -1,7 +1,8 @@
 -- A table that was admitted, as the walks and the tree see it: it can be walked, and it has the form that the tree's
 -- theorems speak of. Assumes nothing.
-use Rattle.std.specs.Prelude.{ℕ, ◌≤◌, List}
+use Rattle.std.specs.Prelude.{ℕ, ◌≤◌, ◌<◌, ◌≡◌, List, Option, None, Some}
 use Rattle.std.proofs.Common.{ap, arith}
+use Rattle.std.proofs.Math.Decide.{ℕ_discrete}
 use Rattle.table.specs.Record.{Record, record_of}
 use Rattle.table.specs.Table.{records_in}
 use Rattle.table.specs.Stands.{
@@ -17,6 +18,8 @@ use Rattle.table.specs.Stands.{
 use Rattle.judge.specs.WellFormed.{WellFormed}
 use Rattle.judge.specs.Decided.{formed_decided}
 use Rattle.survey.specs.Survey.{used_in, root_of}
+use Rattle.survey.specs.Laws.{used_in_seen, root_used}
+use Rattle.survey.specs.Answers.{Tells, tells_some, tells_none}
 use Rattle.judge.specs.Readable.{Readable}
 use Rattle.places.specs.Cases.{either}
 use Rattle.tree.specs.View.{Formed}
@@ -62,3 +65,19 @@ module _ {l : List ℕ} (ok : Readable l) where
   readable_root some =
       stands_in l (root_of (records_in l) (record_of l)) (root_of_is (records_in l) (record_of l) readable_formed
       some).0
+
+  -- a root is told where a record is used, and nowhere else
+  module _ {o : Option ℕ} (t : Tells (records_in l) (root_of (records_in l) (record_of l)) o) where
+    pub rooted : {a : ℕ} → o ≡ Some a → 1 ≤ used_in (records_in l) (record_of l)
+    rooted {a} e =
+        let h = tells_some a t e in
+        let below : root_of (records_in l) (record_of l) < records_in l = omega (arith, h.0, h.1) in
+        used_in_seen (records_in l) (record_of l) _ below (root_used (records_in l) (record_of l) below)
+
+    pub rootless : o ≡ None → used_in (records_in l) (record_of l) ≡ 0
+    rootless e = elim (ℕ_discrete (used_in (records_in l) (record_of l)) 0) [
+      | yes z ↦ z
+      | no nz ↦
+          let root = root_of_is (records_in l) (record_of l) readable_formed (omega arith) in
+          absurd (omega (arith, tells_none t e, root.0))
+    ]

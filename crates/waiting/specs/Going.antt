@@ -1,5 +1,5 @@
--- The work as the code's loops meet it: a child is compared, a record is taken, or the work is over; what is counted
--- by then, and what of the rows is left. Assumes nothing.
+-- The work as the code's loops meet it: a child is compared, a record is taken, or the work is over; and what is
+-- counted by then. Assumes nothing.
 use Prim.Native.Nat.{ℕ, zero, suc, ◌+◌, ◌-◌, ◌≤◌, ◌<◌, min}
 use Rattle.std.specs.Prelude.{◌≡◌, Bool, cond, length, get_or, take, drop}
 use Rattle.std.proofs.Math.Path.{refl}
@@ -8,17 +8,12 @@ use Rattle.std.proofs.Common.{drop-cons}
 use Rattle.std.proofs.Math.Bool.{true, false}
 use mathlib.Core.List.{List, [], ◌∷◌}
 use native.Mathlib.Omega.{arith}
-use Rattle.order.specs.Order.{ToNext}
-use Rattle.order.specs.Among.{falling, falling_last}
 use Rattle.distance.specs.Laws.{farthest}
-use Rattle.refusals.specs.Limits.{most_records, most_nearest}
 use Rattle.table.specs.Record.{Record, slot, children}
 use Rattle.steps.specs.Step.{away_from}
-use Rattle.waiting.specs.declared.Front.{Front}
 use Rattle.waiting.specs.Key.{first_in, slot_in}
 use Rattle.waiting.specs.Front.{State, state, exceeds, lower_from}
 use Rattle.waiting.specs.Front.{meet_one, meet_all, meet_children, take_next, finish}
-use Rattle.waiting.specs.Rows.{front_of, Rows}
 
 -- ---- a row from place j up to n
 
@@ -148,48 +143,3 @@ module _ (R : ℕ → Record) (kind : ℕ) (q : List ℕ) (k : ℕ) where
         all_counted (first_in x) farthest (children (R (slot_in x))) (state ws S.held S.count),
         length-take-le (R (slot_in x)).count (R (slot_in x)).slots few,
       )
-
--- ---- the rows
-
-module _ {k : ℕ} {ws hs : List ℕ} where
-  -- the first that waits is the last in its row
-  pub first_waits :
-      {f : Front} → Rows k ws hs f → 0 < f.waits → f.count ≤ most_records
-      → (front_of ws hs f).waits ≡ get_or ws (f.waits - 1) 0 ∷ falling (f.waits - 1) ws
-  first_waits {f} r some few =
-      let next : f.waits ≡ suc (f.waits - 1) = omega arith in
-      ap (λ (n : ℕ). falling n ws) next
-      ∙ falling_last ws (f.waits - 1) (omega (arith, r.room, r.counted))
-
-  -- it is taken out
-  pub rows_rest :
-      {f : Front} → Rows k ws hs f → Rows k ws hs (record { waits = f.waits - 1; held = f.held; count = f.count })
-  rows_rest {f} r =
-      record {
-        room = r.room;
-        places = r.places;
-        one = r.one;
-        most = r.most;
-        counted = omega (arith, r.counted);
-        few = r.few;
-        held_rise = r.held_rise;
-      }
-
-  -- where the work begins nothing waits, and nothing is held
-  pub first_rows :
-      length ws ≡ most_records
-      → length hs ≡ most_nearest
-      → 1 ≤ k
-      → k ≤ most_nearest
-      → Rows k ws hs (record { waits = 0; held = 0; count = 0 })
-  unfolding ToNext
-  first_rows room places one most =
-      record {
-        room = room;
-        places = places;
-        one = one;
-        most = most;
-        counted = omega arith;
-        few = omega arith;
-        held_rise = tt;
-      }

@@ -18,9 +18,7 @@ use Rattle.order.specs.Among.{
 }
 use Rattle.distance.specs.Laws.{farthest}
 use Rattle.table.specs.Record.{Record}
-use Rattle.waiting.specs.declared.Front.{Front}
 use Rattle.waiting.specs.Key.{first_span}
-use Rattle.waiting.specs.Rows.{Rows}
 use Rattle.waiting.specs.Front.{
   State,
   state,
@@ -46,6 +44,10 @@ holds_rising k x l r =
     (holds k x l)
     (drop k (put_among x l))
     (rw (take-append-drop k (put_among x l)) (put_among_rising x l r))
+
+-- so the first n of the row m are in order, if they are those held with one more
+pub held_rise : (m : List ℕ) (n k x : ℕ) (l : List ℕ) → take n m ≡ holds k x l → Rising l → Rising (take n m)
+held_rise m n k x l e r = rw e (holds_rising k x l r)
 
 -- ---- one more is held: n of the row hs are, and m is the row afterwards
 
@@ -165,41 +167,3 @@ met R k s away lower S ws held e f =
     (λ (w h : List ℕ). state w h (S.count + 1))
     (f ∙ ap (λ (h : List ℕ). waits_with R k s lower h S.waits) e)
     e
-
--- ---- the rows stay rows
-
-module _ (k : ℕ) (ws hs : List ℕ) (f : Front) (rows : Rows k ws hs f) where
-  -- one more is held, in the row hs₁, of which n are held
-  pub rows_hold :
-      (hs₁ : List ℕ) (n x : ℕ)
-      → length hs₁ ≡ length hs
-      → take n hs₁ ≡ holds k x (take f.held hs)
-      → n ≡ min k (f.held + 1)
-      → Rows k ws hs₁ (record { waits = f.waits; held = n; count = f.count })
-  rows_hold hs₁ n x long e m =
-      record {
-        room = rows.room;
-        places = long ∙ rows.places;
-        one = rows.one;
-        most = rows.most;
-        counted = rows.counted;
-        few = omega arith;
-        held_rise = rw e (holds_rising k x (take f.held hs) rows.held_rise);
-      }
-
-  -- one more was compared, and n wait in the row ws₁
-  pub rows_wait :
-      (ws₁ : List ℕ) (n : ℕ)
-      → length ws₁ ≡ length ws
-      → n ≤ f.waits + 1
-      → Rows k ws₁ hs (record { waits = n; held = f.held; count = f.count + 1 })
-  rows_wait ws₁ n long h =
-      record {
-        room = long ∙ rows.room;
-        places = rows.places;
-        one = rows.one;
-        most = rows.most;
-        counted = omega (arith, rows.counted);
-        few = rows.few;
-        held_rise = rows.held_rise;
-      }

@@ -7,7 +7,7 @@ use Rattle.std.proofs.Math.Path.{refl}
 use mathlib.Core.List.{List}
 use Rattle.std.proofs.Math.ListN.{set, length-set}
 use Rattle.std.proofs.lemmas.List.{length-replicate, get_or-replicate}
-use Rattle.std.proofs.Math.Seq.{get_or-set_other, set_out}
+use Rattle.std.proofs.Math.Seq.{get_or-set_other, set_out, paste, paste-zero, paste-suc}
 use Rattle.number.specs.Number.{number_at, with_number}
 use Rattle.number.specs.Frame.{Bytes, Outside, digits_bytes}
 use Rattle.number.specs.Frame.{with_length, with_outside, with_inside, number_with, number_other}
@@ -169,6 +169,23 @@ module _ (l : List ℕ) (at : ℕ) where
       (λ ne.
       get_or-set_other (zeroed n l at) (at + n) (at + j) 0 0 (λ e. ne (omega arith))
       ∙ zeroed_at n (omega arith) j (omega arith))
+
+  -- the first k of n zeros put in from `at` on are k zeros written one by one
+  zeros_pasted : (n k : ℕ) → at + n ≤ length l → k ≤ n → paste l at (replicate n 0) k ≡ zeroed k l at
+  unfolding zeroed
+  zeros_pasted n zero h p = sym (paste-zero l at (replicate n 0))
+  zeros_pasted n (suc k) h p =
+      let zeros : List ℕ = replicate n 0 in
+      let here : get_or zeros k 0 ≡ 0 = get_or-replicate n k 0 0 (omega arith) in
+      let long : length zeros ≡ n = length-replicate n 0 in
+      let room : at + k < length l = omega arith in
+      let within : k < length zeros = omega arith in
+      let turn = rw here at (paste-suc l at zeros k 0 room within) in
+      sym turn ∙ ap (λ (m : List ℕ). set m (at + k) 0) (zeros_pasted n k h (omega arith))
+
+  -- so a run filled with zeros is the bytes made zero one by one
+  pub zeroed_at_once : (n : ℕ) → at + n ≤ length l → paste l at (replicate n 0) n ≡ zeroed n l at
+  zeroed_at_once n h = zeros_pasted n n h (omega arith)
 
 -- a table all of whose bytes are made zero
 pub zeroed_all : (l : List ℕ) → zeroed (length l) l 0 ≡ replicate (length l) 0

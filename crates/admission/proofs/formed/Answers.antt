@@ -1,66 +1,57 @@
 -- `admission::formed` meets its contract: what the pass has seen and the tests of keys are the counting form, which is
 -- proved equal to the paper's clauses. Assumes nothing.
-use Rattle.std.specs.Prelude.{◌≤◌, ◌≡◌, true}
-use Rattle.std.proofs.Common.{sym, ◌∙◌, arith}
-use Rattle.std.proofs.lemmas.Bool.{not-true, not-false}
+use Rattle.std.specs.Prelude.{◌≡◌, Option}
+use Rattle.std.proofs.Common.{sym, ◌∙◌, arith, subst, rules}
 use Rattle.distinct.specs.Distinct.{distinct_to}
-use Rattle.table.specs.Record.{record_of, no_slot}
-use Rattle.admission.specs.Verdict.{numbers_agree, unfit_not, children_few, numbers_not, cards_not, timestamps_decide}
-use Rattle.admission.specs.Verdict.{rising_apart}
-use Rattle.admission.proofs.formed.Goals.{Else-not-keys_distinct, Else-not-numbers_agree, Else-not-seen, Start}
+use Rattle.table.specs.Record.{record_of}
+use Rattle.judge.specs.WellFormed.{well_formed}
+use Rattle.links.specs.declared.Seen.{Seen}
+use Rattle.admission.specs.Verdict.{Judged, misfit_not, numbers_not, cards_not, timestamps_decide, judged}
+use Rattle.admission.proofs.formed.Goals.{Else-not-keys_distinct}
 use Rattle.admission.proofs.formed.Goals as goal
 
-small : (b : Start) → b.args.n ≤ no_slot
-small b = omega (arith, b.requires.1)
+-- once cards are told apart, timestamps decide
+decide : (c : Else-not-keys_distinct)
+    → well_formed c.args.n (record_of c.args.t.now)
+    ≡ distinct_to c.args.n (λ s. (record_of c.args.t.now s).timestamp)
+decide c =
+    let cards = c.keys_distinct.ensures (λ s. (record_of c.args.t.now s).card) (λ s k b given. search rules) in
+    timestamps_decide c.args.n (record_of c.args.t.now) (omega arith) c.in_ok-seen.seen c.in_ok-seen.ensures
+    (sym c.numbers_agree.ensures ∙ c.if-not-numbers_agree.false)
+    (sym cards ∙ c.if-not-keys_distinct.false)
 
-fits : (c : Else-not-seen) → c.args.seen.fit ≡ true
-fits c = not-false c.args.seen.fit c.if-not-seen.false
-
-agree : (c : Else-not-numbers_agree) → numbers_agree c.args.n c.args.seen ≡ true
-agree c = sym c.numbers_agree.ensures ∙ c.if-not-numbers_agree.false
-
-told_apart : (c : Else-not-keys_distinct) →
-    distinct_to c.args.n (λ s. ((record_of c.args.t.now) s).card) ≡ true
-told_apart c = sym c.keys_distinct.ensures ∙ c.if-not-keys_distinct.false
-
-pub returns-then-not-seen : goal.returns-then-not-seen
-returns-then-not-seen c =
-    unfit_not c.args.n (record_of c.args.t.now) (small (goal.at.returns-then-not-seen c).Start) c.args.seen c.requires.2
-    (not-true c.args.seen.fit c.if-not-seen.true)
-
-pub numbers_agree-requires : goal.numbers_agree-requires
-numbers_agree-requires c =
-    children_few c.args.n (record_of c.args.t.now) (small (goal.at.numbers_agree-requires c).Start) c.args.seen
-    c.requires.2 (fits (goal.at.numbers_agree-requires c).Else-not-seen) c.requires.1
+pub returns-in_err-seen : goal.returns-in_err-seen
+returns-in_err-seen c =
+    subst
+    (λ (seen : Option Seen). Judged c.args.n (record_of c.args.t.now) seen)
+    (sym c.from_residual.ensures)
+    (misfit_not c.args.n (record_of c.args.t.now) (omega arith) c.in_err-seen.ensures)
 
 pub returns-then-not-numbers_agree : goal.returns-then-not-numbers_agree
 returns-then-not-numbers_agree c =
-    numbers_not c.args.n (record_of c.args.t.now) (small (goal.at.returns-then-not-numbers_agree c).Start) c.args.seen
-    c.requires.2 (fits (goal.at.returns-then-not-numbers_agree c).Else-not-seen)
+    numbers_not c.args.n (record_of c.args.t.now) (omega arith) c.in_ok-seen.seen c.in_ok-seen.ensures
     (sym c.numbers_agree.ensures ∙ c.if-not-numbers_agree.true)
 
 pub returns-then-not-keys_distinct : goal.returns-then-not-keys_distinct
 returns-then-not-keys_distinct c =
-    cards_not c.args.n (record_of c.args.t.now) (small (goal.at.returns-then-not-keys_distinct c).Start) c.args.seen
-    c.requires.2 (fits (goal.at.returns-then-not-keys_distinct c).Else-not-seen)
-    (agree (goal.at.returns-then-not-keys_distinct c).Else-not-numbers_agree)
-    (sym c.keys_distinct.ensures ∙ c.if-not-keys_distinct.true)
+    let cards = c.keys_distinct.ensures (λ s. (record_of c.args.t.now s).card) (λ s k b given. search rules) in
+    cards_not c.args.n (record_of c.args.t.now) (omega arith) c.in_ok-seen.seen c.in_ok-seen.ensures
+    (sym c.numbers_agree.ensures ∙ c.if-not-numbers_agree.false)
+    (sym cards ∙ c.if-not-keys_distinct.true)
 
 pub returns-then-seen : goal.returns-then-seen
-returns-then-seen c =
-    timestamps_decide c.args.n (record_of c.args.t.now) (small (goal.at.returns-then-seen c).Start) c.args.seen
-    c.requires.2 (fits (goal.at.returns-then-seen c).Else-not-seen) true
-    (agree (goal.at.returns-then-seen c).Else-not-numbers_agree)
-    (told_apart (goal.at.returns-then-seen c).Else-not-keys_distinct)
-    (rising_apart c.args.n (record_of c.args.t.now) (small (goal.at.returns-then-seen c).Start) c.args.seen
-    c.requires.2 (fits (goal.at.returns-then-seen c).Else-not-seen)
-    c.if-seen.true)
+returns-then-seen c = (
+  decide (goal.at.returns-then-seen c).Else-not-keys_distinct ∙ c.in_ok-seen.ensures.apart c.if-seen.true,
+  c.in_ok-seen.ensures,
+)
 
 pub returns : goal.returns
 returns c =
-    timestamps_decide c.args.n (record_of c.args.t.now) (small (goal.at.returns c).Start) c.args.seen c.requires.2
-    (fits (goal.at.returns c).Else-not-seen)
+    let timestamps =
+    c.keys_distinct-2.ensures (λ s. (record_of c.args.t.now s).timestamp) (λ s k b given. search rules) in
+    subst
+    (λ (seen : Option Seen). Judged c.args.n (record_of c.args.t.now) seen)
+    (sym c.then_some.ensures)
+    (judged c.args.n (record_of c.args.t.now) (omega arith) c.in_ok-seen.seen c.in_ok-seen.ensures
     c.keys_distinct-2.result
-    (agree (goal.at.returns c).Else-not-numbers_agree)
-    (told_apart (goal.at.returns c).Else-not-keys_distinct)
-    c.keys_distinct-2.ensures
+    (decide (goal.at.returns c).Else-not-keys_distinct ∙ sym timestamps))

@@ -1,6 +1,6 @@
--- `back::back::put_back` meets its contract. The loop's invariant: those in the first i keys are back and the others
--- wait, so that what is left to do leads to the end of the rule. Assumes nothing.
-use Rattle.std.specs.Prelude.{◌+◌, ◌*◌, ◌≤◌, ◌≡◌, refl, ◌∷◌, map, length, get_or, drop}
+-- `back::put_back` meets its contract. The loop's invariant: those in the keys before are back and the others wait, so
+-- that what is left to do leads to the end of the rule. Assumes nothing.
+use Rattle.std.specs.Prelude.{◌+◌, ◌*◌, ◌≤◌, ◌≡◌, refl, ◌∷◌, map, length, drop}
 use Rattle.std.proofs.Common.{◌∙◌, arith, rules}
 use Rattle.refusals.specs.Limits.{most_records, last_timestamp}
 use Rattle.age.specs.Key.{slot_in, slots_next, slots_end}
@@ -20,74 +20,73 @@ use Rattle.back.specs.Loop.Pending.{
   pending_next,
   pending_rest,
 }
-use Rattle.back.proofs.put_back.Goals.{In-loop-i}
+use Rattle.back.proofs.put_back.Goals.{After-slot_of_key-s}
 use Rattle.back.proofs.put_back.Goals as goal
 
 -- the next that waits
-turn : (c : In-loop-i) →
-    let a = c.args in
-    let l = c.loop-i in
-    Pending l.t (slot_in (get_or a.keys.now l.i 0) ∷ drop (l.i + 1) (map slot_in a.keys.now))
-    a.kind a.arity l.top l.deep l.clock
-turn c = let l = c.loop-i in
-    rw (slots_next c.args.keys.now l.i c.loop-i-test.true) at l.invariant.3
+turn : (c : After-slot_of_key-s) →
+    let l = c.loop-key in
+    let waiting = drop (l.key-index + 1) (map slot_in c.args.keys.now) in
+    Pending l.t (c.slot_of_key-s.result ∷ waiting) l.tree.kind l.tree.arity l.tree.root l.tree.depth l.clock
+turn c = let l = c.loop-key in
+    rw c.slot_of_key-s.ensures (rw (slots_next c.args.keys.now l.key-index c.loop-key-test.true) at l.invariant.1)
 
 -- what is left to do leads to the end
-left : (c : In-loop-i) →
+left : (c : After-slot_of_key-s) →
     let a = c.args in
-    let l = c.loop-i in
-    rest_back a.kind a.arity l.t
-    (slot_in (get_or a.keys.now l.i 0) ∷ drop (l.i + 1) (map slot_in a.keys.now)) l.count
-    ≡ rest_back a.kind a.arity a.t.now (map slot_in a.keys.now) 0
-left c = let l = c.loop-i in
-    rw (slots_next c.args.keys.now l.i c.loop-i-test.true) at l.invariant.4
+    let l = c.loop-key in
+    let ss = map slot_in a.keys.now in
+    rest_back l.tree.kind l.tree.arity l.t (c.slot_of_key-s.result ∷ drop (l.key-index + 1) ss) l.count
+    ≡ rest_back a.tree.kind a.tree.arity a.t.now ss 0
+left c = let l = c.loop-key in
+    rw c.slot_of_key-s.ensures (rw (slots_next c.args.keys.now l.key-index c.loop-key-test.true) at l.invariant.2)
 
-pub loop-i-init : goal.loop-i-init
-loop-i-init c =
-    let p = c.requires in
+pub loop-key-init : goal.loop-key-init
+loop-key-init c =
     let keys = c.args.keys.now in
-    (omega arith, refl, count_start (length keys) (pending_keys_few keys p), p, refl)
+    (count_start (length keys) (pending_keys_few keys c.requires), c.requires, refl)
 
 pub overflow_add-clock : goal.overflow_add-clock
 overflow_add-clock c =
-    let h : c.loop-i.clock + 1 ≤ last_timestamp = pending_clock (turn (goal.at.overflow_add-clock c).In-loop-i) in
+    let now = turn (goal.at.overflow_add-clock c).After-slot_of_key-s in
+    let h : c.loop-key.clock + 1 ≤ last_timestamp = pending_clock now in
     search rules
 
 pub put_one-count-requires : goal.put_one-count-requires
 put_one-count-requires c =
-    let now = turn (goal.at.put_one-count-requires c).In-loop-i in (pending_stands now, pending_hangable now)
+    let now = turn (goal.at.put_one-count-requires c).After-slot_of_key-s in
+    (pending_stands now, pending_hangable now)
 
 pub overflow_add-count : goal.overflow_add-count
 overflow_add-count c =
-    let l = c.loop-i in
+    let l = c.loop-key in
     let p = c.put_one-count in
-    let few = pending_few (turn (goal.at.overflow_add-count c).In-loop-i) p.new.t p.result p.ensures in
+    let now = turn (goal.at.overflow_add-count c).After-slot_of_key-s in
+    let few = pending_few now p.new.t p.result p.ensures in
     let h : l.count + p.result ≤ most_records * most_records =
-    count_room l.count (length c.args.keys.now) l.i p.result l.invariant.2 c.loop-i-test.true few in
+    count_room l.count (length c.args.keys.now) l.key-index p.result l.invariant.0 c.loop-key-test.true few in
     search rules
 
-pub overflow_add-deep : goal.overflow_add-deep
-overflow_add-deep c =
-    let h : c.loop-i.deep ≤ most_records = pending_deep (turn (goal.at.overflow_add-deep c).In-loop-i) in
-    search rules
+pub with_record-tree-requires : goal.with_record-tree-requires
+with_record-tree-requires c =
+    pending_deep (turn (goal.at.with_record-tree-requires c).After-slot_of_key-s)
 
-pub loop-i-preserved : goal.loop-i-preserved
-loop-i-preserved c =
-    let l = c.loop-i in
+pub loop-key-preserved : goal.loop-key-preserved
+loop-key-preserved c =
+    let l = c.loop-key in
     let p = c.put_one-count in
-    let at = (goal.at.loop-i-preserved c).In-loop-i in
-    let now = turn at in (
-      omega (arith, c.loop-i-test.true),
-      p.auto.t ∙ l.invariant.1,
-      count_more l.count (length c.args.keys.now) l.i p.result l.invariant.2 c.loop-i-test.true
-          (pending_few now p.new.t p.result p.ensures),
-      rw c.root_then-top.ensures (pending_next now p.new.t p.result p.ensures p.auto.t),
-      pending_rest now p.new.t p.result p.ensures l.count ∙ left at,
+    let at = (goal.at.loop-key-preserved c).After-slot_of_key-s in
+    let now = turn at in
+    let new = c.with_record-tree.ensures in
+    let few = pending_few now p.new.t p.result p.ensures in (
+      count_more l.count (length c.args.keys.now) l.key-index p.result l.invariant.0 c.loop-key-test.true few,
+      rw (new.kind, new.arity, new.root, new.depth) (pending_next now p.new.t p.result p.ensures p.auto.t),
+      rw (new.kind, new.arity) (pending_rest now p.new.t p.result p.ensures l.count ∙ left at),
     )
 
 pub returns : goal.returns
 returns c =
     let a = c.args in
-    let l = c.loop-i in
-    rest_back_end a.kind a.arity l.t l.count
-    ∙ rw (slots_end a.keys.now l.i (omega (arith, c.loop-i-test.false))) at l.invariant.4
+    let l = c.loop-key in
+    rest_back_end l.tree.kind l.tree.arity l.t l.count
+    ∙ rw (slots_end a.keys.now l.key-index (omega (arith, c.loop-key-test.false))) at l.invariant.2

@@ -1,50 +1,57 @@
 -- `bench::print_cut` is safe and prints nothing but the line of left-over bytes. Assumes nothing.
-use Rattle.std.proofs.Common.{ℕ, ◌^◌, ◌≤◌, ◌<◌, ◌≡◌, length, take, replicate, sym, subst, length-take-le, arith}
-use Rattle.line.specs.Line.{Laid, cut_of, line_into}
+use Rattle.std.proofs.Common.{◌-◌, ◌≤◌, ◌≡◌, length, replicate, sym, subst, length-take-le, arith}
+use Rattle.line.specs.Line.{laid, cut_of, line_into}
+use Rattle.line.specs.Laws.{fitted_some, fitted_at}
 use Rattle.line.specs.Fits.{cut_fits}
 use Rattle.bench.specs.Program.{Says, leaves}
 use Rattle.bench.specs.Laws.{laid_within, laid_line}
+use Rattle.bench.proofs.print_cut.Given.{Over}
+use Rattle.bench.proofs.print_cut.Goals.{After-unwrap-n}
 use Rattle.bench.proofs.print_cut.Goals as goal
 
--- what is laid into the room is the line, which fits
-within : (left : ℕ) (o : Laid) → left < 2 ^ 64 → o ≡ line_into (cut_of left) (replicate 25 0) → o.size ≤ length o.bytes
-within left o h e = laid_within (cut_of left) (replicate 25 0) o (cut_fits left h) e
+-- the line is laid into the room, which is long enough
+is_laid : (g : Over) (c : After-unwrap-n g) →
+    laid c.unwrap-n.result c.put_cut.new.out
+    ≡ line_into (cut_of c.args.left) (replicate 25 0)
+is_laid g c = fitted_at
+    (cut_of c.args.left)
+    (replicate 25 0)
+    c.put_cut.new.out
+    c.put_cut.result
+    c.unwrap-n.result
+    c.put_cut.ensures
+    c.unwrap-n.ensures
 
-whole :
-    (left : ℕ) (o : Laid)
-    → left < 2 ^ 64
-    → o ≡ line_into (cut_of left) (replicate 25 0)
-    → take o.size o.bytes ≡ cut_of left
-whole left o h e = laid_line (cut_of left) (replicate 25 0) o (cut_fits left h) e
+is_within : (g : Over) (c : After-unwrap-n g) → c.unwrap-n.result ≤ length c.put_cut.new.out
+is_within g c =
+    laid_within
+    (cut_of c.args.left)
+    (replicate 25 0)
+    (laid c.unwrap-n.result c.put_cut.new.out)
+    (cut_fits c.args.left c.ranges.left.fits)
+    (is_laid g c)
+
+pub unwrap-n-requires : goal.unwrap-n-requires
+unwrap-n-requires g c =
+    fitted_some (cut_of c.args.left) (replicate 25 0) _ (cut_fits c.args.left c.ranges.left.fits) c.put_cut.ensures
 
 pub slice_bounds-room-end : goal.slice_bounds-room-end
-slice_bounds-room-end g c =
-    within
-    c.args.left
-    (record { size = c.put_cut-n.result; bytes = c.put_cut-n.new.out })
-    c.ranges.left.fits
-    c.put_cut-n.ensures
+slice_bounds-room-end g c = is_within g (goal.at.slice_bounds-room-end g c).After-unwrap-n
 
 pub slice_bounds-print-end : goal.slice_bounds-print-end
 slice_bounds-print-end g c =
-    sym
-    (length-take-le
-    c.put_cut-n.result
-    c.put_cut-n.new.out
-    (within
-    c.args.left
-    (record { size = c.put_cut-n.result; bytes = c.put_cut-n.new.out })
-    c.ranges.left.fits
-    c.put_cut-n.ensures))
+    let p = (goal.at.slice_bounds-print-end g c).After-unwrap-n in
+    sym (length-take-le c.unwrap-n.result c.put_cut.new.out (is_within g p))
 
 pub print-requires : goal.print-requires
-print-requires g c = let a = c.args in
+print-requires g c =
+    let a = c.args in
+    let p = (goal.at.print-requires g c).After-unwrap-n in
     let line =
-    whole
-    a.left
-    (record { size = c.put_cut-n.result; bytes = c.put_cut-n.new.out })
-    c.ranges.left.fits
-    c.put_cut-n.ensures in (
-      c.requires.0,
-      subst (Says a.done) (sym line) (leaves a.left (omega arith) c.requires.1),
-    )
+    laid_line
+    (cut_of a.left)
+    (replicate 25 0)
+    (laid c.unwrap-n.result c.put_cut.new.out)
+    (cut_fits a.left c.ranges.left.fits)
+    (is_laid g p) in
+    subst (Says (a.number - 1)) (sym line) (leaves a.left (omega arith) c.requires)

@@ -1,75 +1,81 @@
--- `delete::call::delete` meets its contract: the call ends refused by the table's size or form, refused by the
--- arguments, refused since the card is not stored, or as it goes with the card's slot. Assumes nothing.
-use Rattle.std.specs.Prelude.{ℕ, ◌≤◌, ◌<◌, ◌≡◌, true, ◌&&◌, leb}
+-- `delete::delete` meets its contract: the call ends refused by the table's size or form, refused by the arguments,
+-- refused since the card is not stored, or as it goes with the card's slot. Assumes nothing.
+use Rattle.std.specs.Prelude.{ℕ, ◌≡◌, true, Option, None, Result, Err, ok_or}
 use Rattle.std.proofs.Common.{sym, ap, ◌∙◌, arith}
-use Rattle.refusals.specs.Limits.{known_arity}
+use Rattle.refusals.specs.declared.Refusal.{Refusal}
+use Rattle.refusals.specs.declared.Refusal.TheVariants as refusal
 use Rattle.refusals.specs.Refusal.{first_of, done}
-use Rattle.table.specs.Record.{record_of}
-use Rattle.table.specs.Table.{records_in}
+use Rattle.refusals.specs.Told.{number_of, number_some, passed_on}
 use Rattle.table.specs.Stands.{stand_all}
-use Rattle.survey.specs.Survey.{slot_of_card}
+use Rattle.survey.specs.Answers.{tells_some, tells_none}
 use Rattle.admission.specs.Admission.{admission_tests}
+use Rattle.admission.specs.Query.{known_change}
 use Rattle.delete.specs.Call.{outcome_at}
-use Rattle.delete.proofs.Call.{same_refusal, right_arity, admission_refused, argument_refused}
-use Rattle.delete.proofs.Call.{absent_refused, present_done}
+use Rattle.delete.proofs.Call.{right_arity, admission_refused, argument_refused, absent_refused, present_done}
 use Rattle.delete.proofs.Plan.{present_deletable}
-use Rattle.delete.proofs.delete.Goals.{Else-admitted-ne-DONE, Else-not-known_change}
+use Rattle.delete.proofs.delete.Goals.{In_ok-there, Else-not-known_change}
 use Rattle.delete.proofs.delete.Goals as goal
 
-admitted : (c : Else-admitted-ne-DONE) → first_of (admission_tests c.args.t.now) ≡ done
-admitted c = sym c.admit-admitted.ensures.refusal_is ∙ c.if-admitted-ne-DONE.false
+-- what is known of a table that is admitted
+admitted : (c : In_ok-there) → first_of (admission_tests c.args.t.now) ≡ done
+admitted c = sym c.in_ok-there.ensures.refusal_is
 
-right : (c : Else-not-known_change) →
-    let a = c.args in
-    leb 1 a.card && known_arity a.arity ≡ true
-right c = let r = c.known_change in
-    sym r.ensures ∙ c.if-not-known_change.false
+right : (c : Else-not-known_change) → known_change c.args.card c.args.arity ≡ true
+right c = sym c.known_change.ensures ∙ c.if-not-known_change.false
 
-pub returns-then-admitted-ne-DONE : goal.returns-then-admitted-ne-DONE
-returns-then-admitted-ne-DONE c =
+-- where no slot is told the refusal is the one that stands for it
+err_is :
+    {o : Option ℕ} {why other : Refusal}
+    → o ≡ None
+    → ◌≡◌ {A = Result ℕ Refusal} (Err why) (ok_or o other)
+    → why ≡ other
+err_is {why = why} {other = other} e h =
+    let same : ◌≡◌ {A = Result ℕ Refusal} (Err why) (Err other) = h ∙ ap (λ (o : Option ℕ). ok_or o other) e in
+    cc
+
+pub returns-in_err-there : goal.returns-in_err-there
+returns-in_err-there c =
     let a = c.args in
-    same_refusal a.t.now c.refused.ensures.0 c.refused.ensures.1
-    ∙ admission_refused a.t.now a.card a.arity c.admit-admitted.result.refusal c.admit-admitted.ensures.refusal_is
-    c.if-admitted-ne-DONE.true
+    let why = c.in_err-there.field-0.0 in
+    rw (passed_on {why = why} c.from_residual.ensures.1)
+    (admission_refused a.t.now a.card a.arity (number_of why) c.in_err-there.ensures.refusal_is (number_some why))
 
 pub returns-then-not-known_change : goal.returns-then-not-known_change
 returns-then-not-known_change c =
     let a = c.args in
-    let r = c.known_change in
-    same_refusal a.t.now c.refused-then-not-known_change.ensures.0 c.refused-then-not-known_change.ensures.1
-    ∙ argument_refused a.t.now a.card a.arity (admitted (goal.at.returns-then-not-known_change c).Else-admitted-ne-DONE)
-    (sym r.ensures ∙ c.if-not-known_change.true)
+    argument_refused a.t.now a.card a.arity (admitted (goal.at.returns-then-not-known_change c).In_ok-there)
+    (sym c.known_change.ensures ∙ c.if-not-known_change.true)
 
-pub slot_of_card-v-requires : goal.slot_of_card-v-requires
-slot_of_card-v-requires c =
-    stand_all c.args.t.now
+pub slot_of_card-requires : goal.slot_of_card-requires
+slot_of_card-requires c = stand_all c.args.t.now
 
-pub returns-then-n-v : goal.returns-then-n-v
-returns-then-n-v c =
+pub returns-in_err-v : goal.returns-in_err-v
+returns-in_err-v c =
     let a = c.args in
-    let l = a.t.now in
-    let absent : records_in l ≤ slot_of_card (records_in l) (record_of l) a.card =
-    omega (arith, c.if-n-v.true, c.slot_of_card-v.ensures) in
-    same_refusal l c.refused-then-n-v.ensures.0 c.refused-then-n-v.ensures.1
-    ∙ absent_refused l a.card a.arity (admitted (goal.at.returns-then-n-v c).Else-admitted-ne-DONE)
-    (right (goal.at.returns-then-n-v c).Else-not-known_change) absent
+    let why = c.in_err-v.field-0.0 in
+    let none : c.slot_of_card.result ≡ None = c.in_err-v.ensures.ok_part in
+    let absent : why ≡ refusal.Absent = err_is none c.in_err-v.ensures.value in
+    rw (passed_on {why = why} c.from_residual-in_err-v.ensures.1, absent)
+    (absent_refused a.t.now a.card a.arity (admitted (goal.at.returns-in_err-v c).In_ok-there)
+    (right (goal.at.returns-in_err-v c).Else-not-known_change)
+    (omega (arith, tells_none c.slot_of_card.ensures none)))
 
 pub delete_at-requires : goal.delete_at-requires
 delete_at-requires c =
-    let a = c.args in (
-      present_deletable a.t.now a.card a.arity c.admit-admitted.result c.admit-admitted.ensures
-          c.if-admitted-ne-DONE.false (right (goal.at.delete_at-requires c).Else-not-known_change)
-          c.slot_of_card-v.result c.slot_of_card-v.ensures (omega (arith, c.if-n-v.false)),
-      right_arity a.card a.arity (right (goal.at.delete_at-requires c).Else-not-known_change),
+    let a = c.args in
+    let ok = right (goal.at.delete_at-requires c).Else-not-known_change in
+    let here = tells_some c.in_ok-v.v c.slot_of_card.ensures c.in_ok-v.ensures.ok_part in (
+      present_deletable a.t.now a.card a.arity c.in_ok-there.there (admitted (goal.at.delete_at-requires c).In_ok-there)
+          c.in_ok-there.ensures.answers ok c.in_ok-v.v here.0 here.1,
+      right_arity a.card a.arity ok,
     )
 
 pub returns : goal.returns
 returns c =
     let a = c.args in
-    let l = a.t.now in
-    let inside : slot_of_card (records_in l) (record_of l) a.card < records_in l =
-    omega (arith, c.if-n-v.false, c.slot_of_card-v.ensures) in
+    let here = tells_some c.in_ok-v.v c.slot_of_card.ensures c.in_ok-v.ensures.ok_part in
     c.delete_at.ensures
-    ∙ ap (λ (v : ℕ). outcome_at l v a.arity) c.slot_of_card-v.ensures
-    ∙ present_done l a.card a.arity (admitted (goal.at.returns c).Else-admitted-ne-DONE)
-    (right (goal.at.returns c).Else-not-known_change) inside
+    ∙ ap (λ (v : ℕ). outcome_at a.t.now v a.arity) here.0
+    ∙ present_done a.t.now a.card a.arity (admitted (goal.at.returns c).In_ok-there)
+    (right (goal.at.returns c).Else-not-known_change)
+    (omega (arith, here.0, here.1))

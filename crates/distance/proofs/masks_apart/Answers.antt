@@ -1,23 +1,18 @@
 -- `distance::masks_apart` meets its contract.
 -- The loop's invariant: the sum is that of the words passed. Assumes nothing.
 use Rattle.std.specs.Prelude.{◌≡◌}
-use Rattle.std.proofs.Common.{ap₂, ◌∙◌, arith, rules}
-use Rattle.places.specs.Sum.{sum_to, sum_more}
-use Rattle.distance.specs.Mask.{masks_apart, bits_apart}
+use Rattle.std.proofs.Common.{ap₂, ◌∙◌, arith}
+use Rattle.places.specs.Sum.{sum_more}
+use Rattle.distance.specs.Mask.{bits_apart, masks_apart}
 use Rattle.distance.proofs.masks_apart.Goals as goal
 
-pub loop-k-init : goal.loop-k-init
-unfolding sum_to
-loop-k-init c = search rules
-
 pub loop-k-preserved : goal.loop-k-preserved
-loop-k-preserved c =
-    let l = c.loop-k in
-    let words = ap₂ bits_apart c.word_of.ensures c.word_of-in-loop-k.ensures in
-    (omega arith, sum_more _ _ _ _ l.invariant.1 (c.bits_apart-sum.ensures.0 ∙ words), omega arith)
+loop-k-preserved g c =
+    let parts = ap₂ bits_apart c.word.ensures c.word-in-loop-k.ensures in
+    (sum_more _ _ _ _ c.loop-k.invariant.0 (c.bits_apart-sum.ensures.0 ∙ parts), omega arith)
 
 pub returns : goal.returns
 unfolding masks_apart
-returns c =
+returns g c =
     let e : c.loop-k.k ≡ 4 = omega arith in
-    (rw e at c.loop-k.invariant.1, omega arith)
+    (rw e at c.loop-k.invariant.0, omega arith)

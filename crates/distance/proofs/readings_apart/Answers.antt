@@ -1,22 +1,18 @@
 -- `distance::readings_apart` meets its contract.
 -- The loop's invariant: the sum is that of the differences passed. Assumes nothing.
 use Rattle.std.specs.Prelude.{◌≡◌}
-use Rattle.std.proofs.Common.{arith, rules}
-use Rattle.places.specs.Sum.{sum_to, sum_more}
-use Rattle.distance.specs.Readings.{readings_apart}
+use Rattle.std.proofs.Common.{ap₂, ◌∙◌, arith}
+use Rattle.places.specs.Sum.{sum_more}
+use Rattle.distance.specs.Readings.{gap, readings_apart}
 use Rattle.distance.proofs.readings_apart.Goals as goal
 
-pub loop-i-init : goal.loop-i-init
-unfolding sum_to
-loop-i-init c = search rules
-
 pub loop-i-preserved : goal.loop-i-preserved
-loop-i-preserved c =
-    let l = c.loop-i in
-    (omega arith, sum_more _ _ _ _ l.invariant.1 c.reading_gap-sum.ensures.0, omega arith)
+loop-i-preserved g c =
+    let parts = ap₂ gap c.reading.ensures c.reading-in-loop-i.ensures in
+    (sum_more _ _ _ _ c.loop-i.invariant.0 (c.reading_gap-sum.ensures.0 ∙ parts), omega arith)
 
 pub returns : goal.returns
 unfolding readings_apart
-returns c =
+returns g c =
     let e : c.loop-i.i ≡ 16 = omega arith in
-    (rw e at c.loop-i.invariant.1, omega arith)
+    (rw e at c.loop-i.invariant.0, omega arith)

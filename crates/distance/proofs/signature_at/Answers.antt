@@ -9,18 +9,11 @@ use Rattle.distance.proofs.signature_at.Goals as goal
 pub loop-k-preserved : goal.loop-k-preserved
 loop-k-preserved c =
     let l = c.loop-k in
-    let a = c.args in (
-      omega arith,
-      search rules,
-      filled_more
-          (readings_at a.t.now a.at)
-          l.readings
-          l.k
-          c.get_u16.result
-          (search rules)
-          l.invariant.2
-          (c.get_u16.ensures ∙ sym (reading_at a.t.now a.at l.k (omega arith))),
-    )
+    let a = c.args in
+    let reading = c.get.ensures ∙ sym (reading_at a.t.now a.at l.k (omega arith)) in
+    let more = filled_more (readings_at a.t.now a.at) l.readings l.k c.get.result (search rules)
+    l.invariant.1 reading in
+    (search rules, more)
 
 pub returns : goal.returns
 returns c =
@@ -30,6 +23,6 @@ returns c =
     (readings_at a.t.now a.at)
     l.readings
     16
-    l.invariant.1
+    l.invariant.0
     (readings_length a.t.now a.at)
-    (λ j b. l.invariant.2 j (omega arith))
+    (λ j b. l.invariant.1 j (omega arith))

@@ -1,12 +1,8 @@
 -- `links::children_ok` meets its contract. The loop's invariant: the i children passed are linked to s, and
 -- `before` is the last one's timestamp, at first the record's own. Assumes nothing.
-use Rattle.std.specs.Prelude.{◌≤◌, ◌-◌}
 use Rattle.table.specs.Record.{record_of}
 use Rattle.links.specs.Loop.Children.{LinkedTo}
 use Rattle.links.proofs.children_ok.Given as goal
 
 abbrev pub invariant-loop-i : goal.invariant-loop-i
-invariant-loop-i l = (l.i ≤ l.count) × LinkedTo l.n (record_of l.t) l.s l.i l.before
-
-abbrev pub decreases-loop-i : goal.decreases-loop-i
-decreases-loop-i l = l.count - l.i
+invariant-loop-i l = LinkedTo l.n (record_of l.t) l.s l.i l.before

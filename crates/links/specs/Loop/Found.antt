@@ -1,140 +1,122 @@
--- Loop: the first slot that passes a test, and the one slot that does, among those before s, as a pass finds them. A
--- slot that is not found is n, the number of slots. Assumes nothing.
-use Rattle.std.specs.Prelude.{ℕ, ◌+◌, ◌≤◌, ◌<◌, min, ◌≡◌, refl, Bool, true, false, ◌⊎◌, ltb}
-use Rattle.std.proofs.Common.{sym, ◌∙◌, inr, arith, below_more, lt-ltb, le-ltb}
+-- Loop: the first slot that passes a test, and the one slot that does, among those before s, as a pass finds them; none
+-- if no slot does. Assumes nothing.
+use Rattle.std.specs.Prelude.{ℕ, ◌+◌, ◌≤◌, ◌<◌, ◌≡◌, refl, Bool, true, false, Option, Some, None, IfSome, is_some}
+use Rattle.std.specs.Option.{option_or, unwrap_or}
+use Rattle.std.proofs.Common.{sym, ◌∙◌, arith, below_more}
 use Rattle.std.proofs.Math.Path.{ap}
-use Rattle.std.proofs.Math.Logic.{inl}
 use mir.Val.{bool_byte}
 use Rattle.places.specs.Choice.{pick}
-use Rattle.places.specs.Cases.{below_or, equal_or}
 use Rattle.places.specs.Test.{count_to, count_more, count_still, count_grows}
 use Rattle.survey.specs.Survey.{first_from}
 use Rattle.survey.specs.First.{first_is}
 
--- a is the first of the slots before s that passes
-pub record FirstBefore (p : ℕ → Bool) (n s a : ℕ) : Type 0 where
-  pub none_before : (j : ℕ) → j < a → j < s → p j ≡ false
-  pub passes : a < s → p a ≡ true
-  pub missing : s ≤ a → a ≡ n
+abbrev pub NoneBefore : (ℕ → Bool) → ℕ → Type 0
+NoneBefore p s = (j : ℕ) → j < s → p j ≡ false
 
--- a is one of them, if any passes
-abbrev pub SomeBefore : (ℕ → Bool) → ℕ → ℕ → ℕ → Type 0
-SomeBefore p n s a = ((a ≡ n) × ((j : ℕ) → j < s → p j ≡ false)) ⊎ ((a < s) × (p a ≡ true))
+-- what is found is the first of the slots before s that passes
+abbrev pub FirstBefore : (ℕ → Bool) → ℕ → Option ℕ → Type 0
+FirstBefore p s None = NoneBefore p s
+FirstBefore p s (Some a) = (a < s) × (p a ≡ true) × NoneBefore p a
 
--- a is the only one of them
-pub record OneBefore (p : ℕ → Bool) (n s a : ℕ) : Type 0 where
-  pub some : SomeBefore p n s a
-  pub many : count_to s p ≡ bool_byte (ltb a n)
+-- what is found is the only one of them
+abbrev pub OneBefore : (ℕ → Bool) → ℕ → Option ℕ → Type 0
+OneBefore p s None = NoneBefore p s × (count_to s p ≡ 0)
+OneBefore p s (Some a) = (a < s) × (p a ≡ true) × (count_to s p ≡ 1)
 
-module _ (p : ℕ → Bool) (n : ℕ) where
-  pub first_start : FirstBefore p n 0 n
-  first_start =
-      record {
-        none_before = λ j b l. absurd (omega arith);
-        passes = λ l. absurd (omega arith);
-        missing = λ l. omega arith;
-      }
+module _ (p : ℕ → Bool) where
+  pub first_start : FirstBefore p 0 None
+  first_start = λ j b. absurd (omega arith)
 
-  pub one_start : OneBefore p n 0 n
+  pub one_start : OneBefore p 0 None
   unfolding count_to
-  one_start =
-      record {
-        some = inl (refl, λ j l. absurd (omega arith));
-        many = ap bool_byte (sym (le-ltb n n (omega arith)));
-      }
+  one_start = (λ j b. absurd (omega arith), refl)
 
-  module _ (s a : ℕ) where
+  -- how many pass is told by whether one is found
+  pub one_counted : (s : ℕ) (found : Option ℕ) → OneBefore p s found → count_to s p ≡ bool_byte (is_some found)
+  one_counted s None f = f.1
+  one_counted s (Some a) f = f.2
+
+  module _ (s : ℕ) where
     -- slot s does not pass
-    pub first_still : s < n → p s ≡ false → FirstBefore p n s a → FirstBefore p n (s + 1) a
-    first_still b e f =
-        record {
-          none_before = λ j l m. equal_or j s (λ q. rw q e) (λ ne. f.none_before j l (omega arith));
-          passes = λ l. f.passes (below_or a s (λ h. h) (λ h. absurd (omega (arith, f.missing h))));
-          missing = λ l. f.missing (omega arith);
-        }
+    pub first_still : (found : Option ℕ) → p s ≡ false → FirstBefore p s found → FirstBefore p (s + 1) found
+    first_still None e f = below_more (λ (j : ℕ). p j ≡ false) s f e
+    first_still (Some a) e f = (omega (arith, f.0), f.1, f.2)
 
     -- slot s passes
-    pub first_more : p s ≡ true → FirstBefore p n s a → FirstBefore p n (s + 1) (min a s)
-    first_more e f =
-        record {
-          none_before = λ j l m. f.none_before j (omega arith) (omega arith);
-          passes =
-              λ l.
-              below_or a s
-              (λ h. let q : min a s ≡ a = omega arith in rw q (f.passes h))
-              (λ h. let q : min a s ≡ s = omega arith in rw q e);
-          missing = λ l. absurd (omega arith);
-        }
+    pub first_more :
+        (found : Option ℕ) → p s ≡ true → FirstBefore p s found → FirstBefore p (s + 1) (option_or found (Some s))
+    first_more None e f = (omega arith, e, f)
+    first_more (Some a) e f = (omega (arith, f.0), f.1, f.2)
 
     -- slot s does not pass
-    pub one_still : p s ≡ false → OneBefore p n s a → OneBefore p n (s + 1) a
-    one_still e f =
-        record {
-          some = still f.some;
-          many = sym (count_still s (count_to s p) p refl e) ∙ f.many;
-        }
-      where
-        still : SomeBefore p n s a → SomeBefore p n (s + 1) a
-        still (inl h) = inl (h.0, below_more (λ (j : ℕ). p j ≡ false) s h.1 e)
-        still (inr h) = inr (omega (arith, h.0), h.1)
+    pub one_still : (found : Option ℕ) → p s ≡ false → OneBefore p s found → OneBefore p (s + 1) found
+    one_still None e f =
+        (below_more (λ (j : ℕ). p j ≡ false) s f.0 e, sym (count_still s (count_to s p) p refl e) ∙ f.1)
+    one_still (Some a) e f =
+        (omega (arith, f.0), f.1, sym (count_still s (count_to s p) p refl e) ∙ f.2)
+
+    one_more : p s ≡ true → count_to s p + 1 ≡ count_to (s + 1) p
+    one_more e = count_more s (count_to s p) 1 p refl (sym (ap (λ (t : Bool). pick {A = ℕ} t 1 0) e))
 
     -- slot s is the first that does
-    pub one_here : s < n → n ≤ a → p s ≡ true → OneBefore p n s a → OneBefore p n (s + 1) s
-    one_here b none e f =
-        record {
-          some = inr (omega arith, e);
-          many =
-              sym (count_more s (count_to s p) 1 p refl (sym (ap (λ (t : Bool). pick {A = ℕ} t 1 0) e)))
-              ∙ ap (λ (k : ℕ). k + 1) (f.many ∙ ap bool_byte (le-ltb a n none))
-              ∙ ap bool_byte (sym (lt-ltb s n b));
-        }
+    pub one_here : p s ≡ true → OneBefore p s None → OneBefore p (s + 1) (Some s)
+    one_here e f = (omega arith, e, omega (arith, f.1, one_more e))
 
     -- slot s is the second that does
-    pub one_twice : s < n → a < n → p s ≡ true → OneBefore p n s a → 2 ≤ count_to n p
-    one_twice b found e f =
-        omega (
-          arith,
-          f.many ∙ ap bool_byte (lt-ltb a n found),
-          count_more s (count_to s p) 1 p refl (sym (ap (λ (t : Bool). pick {A = ℕ} t 1 0) e)),
-          count_grows (s + 1) n p (omega arith),
-        )
+    pub one_twice : (n a : ℕ) → s < n → p s ≡ true → OneBefore p s (Some a) → 2 ≤ count_to n p
+    one_twice n a b e f = omega (arith, f.2, one_more e, count_grows (s + 1) n p (omega arith))
 
-  -- all slots seen
-  pub first_end : (a : ℕ) → FirstBefore p n n a → a ≡ first_from p 0 n
-  first_end a f =
-      let most : a ≤ n = below_or a n (λ h. omega arith) (λ h. omega (arith, f.missing h)) in
-      sym
-      (first_is p 0 n a
-      (record {
-        from = omega arith;
-        to = omega arith;
-        passes = λ h. f.passes (omega arith);
-        before = λ j h b. f.none_before j b (omega arith);
-      }))
+  -- all n slots seen, where n itself tells that none is found
+  -- what is found is one of the slots
+  pub first_found : (s : ℕ) (found : Option ℕ) → FirstBefore p s found → IfSome found (λ a. a < s)
+  first_found s None f = tt
+  first_found s (Some a) f = f.0
 
-  -- where no two pass, one is the first
-  pub some_end :
-      (a : ℕ) → ((i j : ℕ) → i < n → j < n → p i ≡ true → p j ≡ true → i ≡ j) → SomeBefore p n n a
-      → a ≡ first_from p 0 n
-  some_end a one (inl h) =
-      sym
-      (first_is p 0 n a
-      (record {
-        from = omega arith;
-        to = omega (arith, h.0);
-        passes = λ l. absurd (omega (arith, h.0));
-        before = λ j l b. h.1 j (omega (arith, h.0));
-      }))
-  some_end a one (inr h) =
-      sym
-      (first_is p 0 n a
-      (record {
-        from = omega arith;
-        to = omega (arith, h.0);
-        passes = λ l. h.1;
-        before = λ j l b. other j b (p j) refl;
-      }))
-    where
-      other : (j : ℕ) → j < a → (t : Bool) → p j ≡ t → t ≡ false
-      other j b true e = absurd (omega (arith, one j a (omega (arith, h.0)) h.0 e h.1))
-      other j b false e = refl
+  pub one_found : (s : ℕ) (found : Option ℕ) → OneBefore p s found → IfSome found (λ a. a < s)
+  one_found s None f = tt
+  one_found s (Some a) f = f.0
+
+  module _ (n : ℕ) where
+    none_end : NoneBefore p n → n ≡ first_from p 0 n
+    none_end f =
+        sym
+        (first_is p 0 n n
+        (record {
+          from = omega arith;
+          to = omega arith;
+          passes = λ l. absurd (omega arith);
+          before = λ j l b. f j b;
+        }))
+
+    pub first_end : (found : Option ℕ) → FirstBefore p n found → unwrap_or found n ≡ first_from p 0 n
+    first_end None f = none_end f
+    first_end (Some a) f =
+        sym
+        (first_is p 0 n a
+        (record {
+          from = omega arith;
+          to = omega (arith, f.0);
+          passes = λ l. f.1;
+          before = λ j l b. f.2 j b;
+        }))
+
+    -- where no two pass, one is the first
+    pub one_end :
+        (found : Option ℕ)
+        → ((i j : ℕ) → i < n → j < n → p i ≡ true → p j ≡ true → i ≡ j)
+        → OneBefore p n found
+        → unwrap_or found n ≡ first_from p 0 n
+    one_end None one f = none_end f.0
+    one_end (Some a) one f =
+        sym
+        (first_is p 0 n a
+        (record {
+          from = omega arith;
+          to = omega (arith, f.0);
+          passes = λ l. f.1;
+          before = λ j l b. other j b (p j) refl;
+        }))
+      where
+        other : (j : ℕ) → j < a → (t : Bool) → p j ≡ t → t ≡ false
+        other j b true e = absurd (omega (arith, one j a (omega (arith, f.0)) f.0 e f.1))
+        other j b false e = refl

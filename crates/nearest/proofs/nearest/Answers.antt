@@ -1,100 +1,114 @@
 -- `nearest::nearest` meets its contract: what its tests refuse has no pair, and what none refuses has the nearest ones.
 -- Assumes nothing.
-use Rattle.std.specs.Prelude.{ℕ, ◌≡◌}
-use Rattle.std.proofs.Common.{sym, ap, subst, ◌∙◌, arith}
-use Rattle.distance.specs.Signature.{Fit, readings_fit}
+use Rattle.std.specs.Prelude.{◌≡◌, refl}
+use Rattle.std.proofs.Common.{sym, ap, ◌∙◌, arith}
 use Rattle.table.specs.Record.{record_of}
 use Rattle.table.specs.Table.{records_in}
-use Rattle.refusals.specs.Refusal.{done}
-use Rattle.survey.specs.Answers.{Answers}
+use Rattle.refusals.specs.Refusal.{first_of, done}
+use Rattle.refusals.specs.Told.{number_of, number_some, passed_on}
+use Rattle.survey.specs.Answers.{Answers, tells_some}
+use Rattle.view.specs.Readable.{rooted, rootless}
+use Rattle.admission.specs.Admission.{admission_tests}
 use Rattle.nearest.specs.Nearest.{refusal_of}
-use Rattle.nearest.proofs.Tests.{Accepted, accepted, refusal_admits}
-use Rattle.nearest.proofs.Laws.{accepted_is, refuses}
-use Rattle.nearest.proofs.nearest.Goals.{After-admit-lent, After-refusal_of-refusal, After-signature_at-q}
-use Rattle.nearest.proofs.nearest.Goals.{Else-refusal-ne-DONE}
+use Rattle.nearest.proofs.Tests.{Accepted, accepted, refusal_lent}
+use Rattle.nearest.proofs.Laws.{accepted_is, refused_by, listing_none}
+use Rattle.nearest.proofs.nearest.Goals.{In_ok-there, In_ok-own_tests}
 use Rattle.nearest.proofs.nearest.Goals as goal
 
--- the refusal of this call
-abbrev refusal : After-admit-lent → ℕ
-refusal c = let a = c.args in refusal_of a.t.now a.kind a.signature.now a.k a.room
+-- what is known of a table that is admitted
+admitted : (c : In_ok-there) → let l = c.args.t.now in first_of (admission_tests l) ≡ done
+admitted c = sym c.in_ok-there.ensures.refusal_is
 
-refusal_is : (c : After-refusal_of-refusal) → c.refusal_of-refusal.result ≡ refusal (record {
-  before =
-      c.before.before;
-  type_inv = record { signature = c.type_inv.signature; t = c.type_inv.t };
-})
-refusal_is c = c.refusal_of-refusal.ensures c.args.t.now c.admit-lent.ensures
+answers : (c : In_ok-there) → let l = c.args.t.now in Answers (records_in l) (record_of l) c.in_ok-there.there
+answers c = c.in_ok-there.ensures.answers
 
--- what is known where no test refuses the call
-none : (c : Else-refusal-ne-DONE) → refusal (record {
-  before = c.before.before.before;
-  type_inv =
-      record { signature = c.type_inv.signature; t = c.type_inv.t };
-}) ≡ done
-none c =
-    sym (refusal_is (record {
-      before = c.before.before;
-      type_inv =
-          record { signature = c.type_inv.signature; t = c.type_inv.t };
-    })) ∙ c.if-refusal-ne-DONE.false
-
-passed : (c : Else-refusal-ne-DONE) →
+-- and where no test refuses the call
+none : (c : In_ok-own_tests) →
     let a = c.args in
-    Accepted a.t.now a.kind a.signature.now a.k a.room
-passed c = let a = c.args in
-    accepted a.t.now a.kind a.signature.now a.k a.room (none c)
+    done ≡ refusal_of a.t.now a.kind a.signature.now a.k a.room
+none c = c.in_ok-own_tests.ensures c.args.t.now (sym c.in_ok-there.ensures.refusal_is) c.in_ok-there.ensures.answers
 
-answers : (c : Else-refusal-ne-DONE) →
-    let l = c.args.t.now in
-    Answers (records_in l) (record_of l) c.admit-lent.result.found
-answers c = let a = c.args in
-    let e = c.admit-lent.ensures in
-    e.answers
-    (e.refusal_is ∙ refusal_admits a.t.now a.kind a.signature.now a.k a.room (none c))
+passed : (c : In_ok-own_tests) → let a = c.args in Accepted a.t.now a.kind a.signature.now a.k a.room
+passed c = let a = c.args in accepted a.t.now a.kind a.signature.now a.k a.room (sym (none c))
 
--- the readings of the query fit
-query_fit : (c : After-signature_at-q) → Fit c.signature_at-q.result.readings
-query_fit c = let known = c.type_inv.signature in
-    subst Fit (sym c.signature_at-q.ensures)
-    (readings_fit c.args.signature.now 0 (λ i. omega (arith, known i)))
-
-pub returns-then-refusal-ne-DONE : goal.returns-then-refusal-ne-DONE
-returns-then-refusal-ne-DONE c =
+pub returns-in_err-there : goal.returns-in_err-there
+returns-in_err-there c =
     let a = c.args in
-    let x = c.nothing.ensures in (
-      rw x.1 (refuses a.t.now a.kind a.signature.now a.k a.room
-          c.refusal_of-refusal.result _ _
-          (sym (refusal_is (goal.at.returns-then-refusal-ne-DONE c).After-refusal_of-refusal))
-          c.if-refusal-ne-DONE.true x.0),
-      omega (arith, x.0),
-      omega (arith, x.0),
-    )
+    let why = c.in_err-there.field-0.0 in
+    rw (passed_on {why = why} c.from_residual.ensures.1)
+    (record {
+      pairs =
+          refused_by a.t.now a.kind a.signature.now a.k a.room why
+          (sym (refusal_lent a.t.now a.kind a.signature.now a.k a.room (number_of why)
+          c.in_err-there.ensures.refusal_is
+          (number_some why)));
+      few = tt;
+    })
 
-pub signature_at-q-requires : goal.signature_at-q-requires
-signature_at-q-requires c =
-    let b = (passed (goal.at.signature_at-q-requires c).Else-refusal-ne-DONE).bytes in omega arith
+pub returns-in_err-own_tests : goal.returns-in_err-own_tests
+returns-in_err-own_tests c =
+    let a = c.args in
+    let why = c.in_err-own_tests.field-0.0 in
+    let h = (goal.at.returns-in_err-own_tests c).In_ok-there in
+    rw (passed_on {why = why} c.from_residual-in_err-own_tests.ensures.1)
+    (record {
+      pairs =
+          refused_by a.t.now a.kind a.signature.now a.k a.room why
+          (sym (c.in_err-own_tests.ensures a.t.now (admitted h) (answers h)));
+      few = tt;
+    })
+
+pub returns-in_default : goal.returns-in_default
+returns-in_default c =
+    let a = c.args in
+    let h = (goal.at.returns-in_default c).In_ok-there in
+    let ok = passed (goal.at.returns-in_default c).In_ok-own_tests in
+    let x = c.nothing.ensures in
+    record {
+      pairs =
+          λ list long.
+          rw (
+            accepted_is a.t.now a.kind a.signature.now a.k list
+                (ap (refusal_of _ _ _ _) long ∙ sym (none (goal.at.returns-in_default c).In_ok-own_tests)),
+            x.1,
+            x.0,
+          )
+          (listing_none a.t.now a.kind _ a.k done 0 c.nothing.result.pairs
+          (rootless ok.readable (answers h).root c.in_default.is)
+          refl refl list);
+      few = (omega (arith, x.0), omega (arith, x.0));
+    }
+
+pub signature_at-requires : goal.signature_at-requires
+signature_at-requires c =
+    let b = (passed (goal.at.signature_at-requires c).In_ok-own_tests).bytes in omega arith
 
 pub accepted-requires : goal.accepted-requires
 accepted-requires c =
-    let p = passed (goal.at.accepted-requires c).Else-refusal-ne-DONE in
-    let x = answers (goal.at.accepted-requires c).Else-refusal-ne-DONE in
+    let p = passed (goal.at.accepted-requires c).In_ok-own_tests in
+    let x = answers (goal.at.accepted-requires c).In_ok-there in
     record {
-      readable = (p.readable, query_fit (goal.at.accepted-requires c).After-signature_at-q, p.one, p.most);
-      used_value = (x.used, x.root);
+      readable = (p.readable, p.one, p.most);
+      there = (
+        omega (arith, x.used, rooted p.readable x.root c.in-Some.is),
+        x.used,
+        (tells_some c.in-Some.root x.root c.in-Some.is).0,
+      );
     }
 
 pub returns : goal.returns
 returns c =
     let a = c.args in
     let r = c.accepted.ensures in
-    let p = passed (goal.at.returns c).Else-refusal-ne-DONE in (
-      λ list long.
+    let p = passed (goal.at.returns c).In_ok-own_tests in
+    record {
+      pairs =
+          λ list long.
           rw (
-            accepted_is a.t.now a.kind a.signature.now a.k list (ap (refusal_of _ _ _ _) long
-                ∙ none (goal.at.returns c).Else-refusal-ne-DONE),
-            ← c.signature_at-q.ensures,
+            accepted_is a.t.now a.kind a.signature.now a.k list
+                (ap (refusal_of _ _ _ _) long ∙ sym (none (goal.at.returns c).In_ok-own_tests)),
+            ← c.signature_at.ensures,
           )
-          (r.0 list),
-      omega (arith, r.1, p.room),
-      omega (arith, r.1, p.most),
-    )
+          (r.0 list);
+      few = (omega (arith, r.1, p.room), omega (arith, r.1, p.most));
+    }

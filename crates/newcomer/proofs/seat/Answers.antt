@@ -4,7 +4,6 @@ use Rattle.std.specs.Prelude.{refl}
 use Rattle.std.proofs.Common.{arith}
 use Rattle.table.specs.Record.{record_of}
 use Rattle.writing.specs.Put.{with_timestamp, with_radius, with_parent, with_count}
-use Rattle.table.specs.Stands.{stands_same}
 use Rattle.writing.specs.Laws.{Became, put_timestamp_lem, put_radius_lem, put_parent_lem, put_count_lem, became_by}
 use Rattle.writing.specs.Laws.{then_with}
 use Rattle.newcomer.specs.Newcomer.{fresh, slotless}
@@ -16,7 +15,7 @@ timestamp_put : (c : After-put_timestamp) →
     Became c.args.t.now c.args.s (with_timestamp (record_of c.args.t.now c.args.s) c.args.timestamp)
     c.put_timestamp.new.t
 timestamp_put c = became_by
-    (put_timestamp_lem c.args.t.now c.args.s c.requires c.args.timestamp (omega (arith, c.ranges.timestamp)))
+    (put_timestamp_lem c.args.t.now c.args.s c.requires.0 c.args.timestamp (omega (arith, c.ranges.timestamp)))
     refl
     c.put_timestamp.ensures
 
@@ -24,47 +23,29 @@ radius_put : (c : After-put_radius) →
     Became c.args.t.now c.args.s (with_radius (with_timestamp (record_of c.args.t.now c.args.s) c.args.timestamp) 0)
     c.put_radius.new.t
 radius_put c = let m = c.put_timestamp.new.t in
-    wrote_then (λ r. with_radius r 0) (timestamp_put c.before.before.before.before) c.requires
+    wrote_then (λ r. with_radius r 0) (timestamp_put c.before.before.before.before) c.requires.0
     (λ h. became_by (put_radius_lem m c.args.s h 0 (omega arith)) refl c.put_radius.ensures)
 
 parent_put : (c : After-put_parent) →
     Became c.args.t.now c.args.s
-    (with_parent (with_radius (with_timestamp (record_of c.args.t.now c.args.s) c.args.timestamp) 0) c.args.parent)
+    (with_parent (with_radius (with_timestamp (record_of c.args.t.now c.args.s) c.args.timestamp) 0) c.told.result)
     c.put_parent.new.t
 parent_put c = let m = c.put_radius.new.t in
-    let p = c.args.parent in
-    wrote_then (λ r. with_parent r p) (radius_put c.before.before.before.before) c.requires
-    (λ h. became_by (put_parent_lem m c.args.s h p (omega (arith, c.ranges.parent))) refl c.put_parent.ensures)
+    let p = c.told.result in
+    let told_at = c.before.before in
+    wrote_then (λ r. with_parent r p) (radius_put told_at.before.before.before) c.requires.0
+    (λ h. became_by (put_parent_lem m c.args.s h p (omega (arith, c.told.type_inv))) refl c.put_parent.ensures)
 
 count_put : (c : After-put_count) →
     Became c.args.t.now c.args.s
     (with_count (with_parent (with_radius (with_timestamp (record_of c.args.t.now c.args.s) c.args.timestamp) 0)
-    c.args.parent) 0) c.put_count.new.t
+    c.told.result) 0) c.put_count.new.t
 count_put c = let m = c.put_parent.new.t in
-    wrote_then (λ r. with_count r 0) (parent_put c.before.before.before.before) c.requires
+    wrote_then (λ r. with_count r 0) (parent_put c.before.before.before.before) c.requires.0
     (λ h. became_by (put_count_lem m c.args.s h 0 (omega arith)) refl c.put_count.ensures)
-
-pub put_radius-requires : goal.put_radius-requires
-put_radius-requires c =
-    stands_same c.args.t.now c.put_timestamp.new.t
-    (timestamp_put (goal.at.put_radius-requires c).After-put_timestamp).same_length c.args.s c.requires
-
-pub put_parent-requires : goal.put_parent-requires
-put_parent-requires c =
-    stands_same c.args.t.now c.put_radius.new.t
-    (radius_put (goal.at.put_parent-requires c).After-put_radius).same_length c.args.s c.requires
-
-pub put_count-requires : goal.put_count-requires
-put_count-requires c =
-    stands_same c.args.t.now c.put_parent.new.t
-    (parent_put (goal.at.put_count-requires c).After-put_parent).same_length c.args.s c.requires
-
-pub clear_slots-requires : goal.clear_slots-requires
-clear_slots-requires c =
-    stands_same c.args.t.now c.put_count.new.t (count_put (goal.at.clear_slots-requires c).After-put_count).same_length
-    c.args.s c.requires
 
 pub returns : goal.returns
 unfolding fresh
 returns c =
-    then_with slotless (count_put (goal.at.returns c).After-put_count) c.clear_slots.ensures
+    rw (← c.told.ensures)
+    (then_with slotless (count_put (goal.at.returns c).After-put_count) c.clear_slots.ensures)

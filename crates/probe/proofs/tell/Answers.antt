@@ -2,34 +2,35 @@
 use Rattle.std.specs.Prelude.{◌≡◌}
 use Rattle.std.proofs.Common.{sym, ◌∙◌}
 use Rattle.refusals.specs.Refusal.{done}
+use Rattle.refusals.specs.Told.{number_some}
 use Rattle.table.specs.Record.{record_of}
 use Rattle.table.specs.Table.{records_in}
 use Rattle.table.specs.Stands.{right_most}
+use Rattle.admission.specs.Admission.{admitted, admitted_answers, not_admitted}
 use Rattle.probe.specs.Probe.{judge_probe}
 use Rattle.probe.specs.Tells.{judged_size, answers_small, tells_found, tells_nothing}
-use Rattle.probe.proofs.tell.Goals.{Then-admitted-eq-DONE}
+use Rattle.probe.proofs.tell.Goals.{In-Ok}
 use Rattle.probe.proofs.tell.Goals as goal
 
 -- the table was admitted where its answers are told
-admitted : (c : Then-admitted-eq-DONE) → judge_probe c.args.t.now ≡ done
+judged : (c : In-Ok) → judge_probe c.args.t.now ≡ done
 unfolding judge_probe
-admitted c = sym c.admit-admitted.ensures.refusal_is ∙ c.if-admitted-eq-DONE.true
+judged c = admitted c.admit.ensures c.in-Ok.is
 
 pub widened-requires : goal.widened-requires
 widened-requires c =
     let l = c.args.t.now in
-    answers_small (records_in l) (record_of l) c.admit-admitted.result.found
-    (right_most l (judged_size l (admitted (goal.at.widened-requires c).Then-admitted-eq-DONE)))
-    (c.admit-admitted.ensures.answers c.if-admitted-eq-DONE.true)
+    answers_small (records_in l) (record_of l) c.in-Ok.found
+    (right_most l (judged_size l (judged (goal.at.widened-requires c).In-Ok)))
+    (admitted_answers c.admit.ensures c.in-Ok.is)
 
-pub returns-then-admitted-eq-DONE : goal.returns-then-admitted-eq-DONE
-returns-then-admitted-eq-DONE c =
-    tells_found c.args.t.now c.admit-admitted.result.found c.widened.result
-    (admitted (goal.at.returns-then-admitted-eq-DONE c).Then-admitted-eq-DONE)
-    (c.admit-admitted.ensures.answers c.if-admitted-eq-DONE.true)
+pub returns-in-Ok : goal.returns-in-Ok
+returns-in-Ok c =
+    tells_found c.args.t.now c.in-Ok.found c.widened.result (judged (goal.at.returns-in-Ok c).In-Ok)
+    (admitted_answers c.admit.ensures c.in-Ok.is)
     c.widened.ensures
 
-pub returns-else-admitted-eq-DONE : goal.returns-else-admitted-eq-DONE
+pub returns-in-Err : goal.returns-in-Err
 unfolding judge_probe
-returns-else-admitted-eq-DONE c =
-    tells_nothing c.args.t.now (λ e. c.if-admitted-eq-DONE.false (c.admit-admitted.ensures.refusal_is ∙ e))
+returns-in-Err c =
+    tells_nothing c.args.t.now (λ e. number_some _ (not_admitted c.admit.ensures c.in-Err.is ∙ e))

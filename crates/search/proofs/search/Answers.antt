@@ -1,97 +1,94 @@
 -- `search::search` meets its contract: what its tests refuse is refused, and what none refuses is listed. Assumes
 -- nothing.
-use Rattle.std.specs.Prelude.{ℕ, ◌≡◌, length}
-use Rattle.std.proofs.Common.{sym, subst, ◌∙◌, arith, rules}
-use Rattle.distance.specs.Signature.{Fit, readings_fit}
+use Rattle.std.specs.Prelude.{◌≡◌, length}
+use Rattle.std.proofs.Common.{sym, ◌∙◌, arith}
 use Rattle.table.specs.Record.{record_of}
 use Rattle.table.specs.Table.{records_in}
-use Rattle.refusals.specs.Refusal.{done}
-use Rattle.survey.specs.Answers.{Answers}
+use Rattle.refusals.specs.Refusal.{first_of, done}
+use Rattle.refusals.specs.Told.{number_of, number_some, passed_on}
+use Rattle.survey.specs.Answers.{Answers, tells_some}
+use Rattle.view.specs.Readable.{rooted, rootless}
+use Rattle.admission.specs.Admission.{admission_tests}
 use Rattle.search.specs.Search.{refusal_of}
-use Rattle.search.specs.Tests.{Accepted, accepted, refusal_admits}
+use Rattle.search.specs.Tests.{Accepted, accepted, refusal_lent}
 use Rattle.search.specs.Laws.{accepted_is, refuses}
-use Rattle.search.proofs.search.Goals.{After-admit-lent, After-refusal_of-refusal, After-signature_at-q}
-use Rattle.search.proofs.search.Goals.{Else-refusal-ne-DONE}
+use Rattle.search.specs.Listing.{listing_none}
+use Rattle.search.proofs.search.Goals.{In_ok-there, In_ok-own_tests}
 use Rattle.search.proofs.search.Goals as goal
 
--- the refusal of this call
-abbrev refusal : After-admit-lent → ℕ
-refusal c = let a = c.args in refusal_of a.t.now a.kind a.signature.now (length a.list.now)
+-- what is known of a table that is admitted
+admitted : (c : In_ok-there) → let l = c.args.t.now in first_of (admission_tests l) ≡ done
+admitted c = sym c.in_ok-there.ensures.refusal_is
 
-refusal_is : (c : After-refusal_of-refusal) → c.refusal_of-refusal.result ≡ refusal (record {
-  before =
-      c.before.before;
-  type_inv = record { list = c.type_inv.list; signature = c.type_inv.signature; t = c.type_inv.t };
-})
-refusal_is c = c.refusal_of-refusal.ensures c.args.t.now c.admit-lent.ensures
+answers : (c : In_ok-there) → let l = c.args.t.now in Answers (records_in l) (record_of l) c.in_ok-there.there
+answers c = c.in_ok-there.ensures.answers
 
--- what is known where no test refuses the call
-none : (c : Else-refusal-ne-DONE) → refusal (record {
-  before = c.before.before.before;
-  type_inv =
-      record { list = c.type_inv.list; signature = c.type_inv.signature; t = c.type_inv.t };
-}) ≡ done
-none c =
-    sym (refusal_is (record {
-      before = c.before.before;
-      type_inv =
-          record { list = c.type_inv.list; signature = c.type_inv.signature; t = c.type_inv.t };
-    }))
-    ∙ c.if-refusal-ne-DONE.false
-
-passed : (c : Else-refusal-ne-DONE) →
+-- and where no test refuses the call
+none : (c : In_ok-own_tests) →
     let a = c.args in
-    Accepted a.t.now a.kind a.signature.now (length a.list.now)
-passed c = let a = c.args in
-    accepted a.t.now a.kind a.signature.now (length a.list.now) (none c)
+    done ≡ refusal_of a.t.now a.kind a.signature.now (length a.list.now)
+none c = c.in_ok-own_tests.ensures c.args.t.now (sym c.in_ok-there.ensures.refusal_is) c.in_ok-there.ensures.answers
 
-answers : (c : Else-refusal-ne-DONE) →
-    let l = c.args.t.now in
-    Answers (records_in l) (record_of l) c.admit-lent.result.found
-answers c = let a = c.args in
-    let e = c.admit-lent.ensures in
-    e.answers
-    (e.refusal_is ∙ refusal_admits a.t.now a.kind a.signature.now (length a.list.now) (none c))
+passed : (c : In_ok-own_tests) → let a = c.args in Accepted a.t.now a.kind a.signature.now (length a.list.now)
+passed c = let a = c.args in accepted a.t.now a.kind a.signature.now (length a.list.now) (sym (none c))
 
--- the readings of the query fit
-query_fit : (c : After-signature_at-q) → Fit c.signature_at-q.result.readings
-query_fit c = let known = c.type_inv.signature in
-    subst Fit (sym c.signature_at-q.ensures)
-    (readings_fit c.args.signature.now 0 (λ i. omega (arith, known i)))
-
-pub returns-then-refusal-ne-DONE : goal.returns-then-refusal-ne-DONE
-returns-then-refusal-ne-DONE c =
+pub returns-in_err-there : goal.returns-in_err-there
+returns-in_err-there c =
     let a = c.args in
-    let x = c.refused.ensures in
-    rw (x.0, x.1, x.2)
-    (refuses a.t.now a.kind a.signature.now a.radius a.list.now
-    c.refusal_of-refusal.result
-    (sym (refusal_is (goal.at.returns-then-refusal-ne-DONE c).After-refusal_of-refusal))
-    c.if-refusal-ne-DONE.true)
+    let why = c.in_err-there.field-0.0 in
+    rw (passed_on {why = why} c.from_residual.ensures.1)
+    (refuses a.t.now a.kind a.signature.now a.radius a.list.now (number_of why)
+    (sym (refusal_lent a.t.now a.kind a.signature.now (length a.list.now) (number_of why)
+    c.in_err-there.ensures.refusal_is
+    (number_some why)))
+    (number_some why))
 
-pub signature_at-q-requires : goal.signature_at-q-requires
-signature_at-q-requires c =
-    let b = (passed (goal.at.signature_at-q-requires c).Else-refusal-ne-DONE).bytes in omega arith
+pub returns-in_err-own_tests : goal.returns-in_err-own_tests
+returns-in_err-own_tests c =
+    let a = c.args in
+    let why = c.in_err-own_tests.field-0.0 in
+    let h = (goal.at.returns-in_err-own_tests c).In_ok-there in
+    rw (passed_on {why = why} c.from_residual-in_err-own_tests.ensures.1)
+    (refuses a.t.now a.kind a.signature.now a.radius a.list.now (number_of why)
+    (sym (c.in_err-own_tests.ensures a.t.now (admitted h) (answers h)))
+    (number_some why))
+
+pub returns-in_default : goal.returns-in_default
+returns-in_default c =
+    let a = c.args in
+    let h = (goal.at.returns-in_default c).In_ok-there in
+    let ok = passed (goal.at.returns-in_default c).In_ok-own_tests in
+    listing_none (records_in a.t.now) (record_of a.t.now) a.kind _ a.radius a.list.now
+    (rootless ok.readable (answers h).root c.in_default.is)
+    ∙ sym (accepted_is a.t.now a.kind a.signature.now a.radius a.list.now
+    (sym (none (goal.at.returns-in_default c).In_ok-own_tests)))
+
+pub signature_at-requires : goal.signature_at-requires
+signature_at-requires c =
+    let b = (passed (goal.at.signature_at-requires c).In_ok-own_tests).bytes in omega arith
 
 pub accepted-requires : goal.accepted-requires
 accepted-requires c =
-    let p = passed (goal.at.accepted-requires c).Else-refusal-ne-DONE in
-    let x = answers (goal.at.accepted-requires c).Else-refusal-ne-DONE in
+    let p = passed (goal.at.accepted-requires c).In_ok-own_tests in
+    let x = answers (goal.at.accepted-requires c).In_ok-there in
     record {
       readable = (
         p.readable,
-        query_fit (goal.at.accepted-requires c).After-signature_at-q,
-        search rules,
-        omega (arith, x.used, p.room),
+        omega (x.used, p.room, arith),
       );
-      used_value = (x.used, x.root);
+      there = (
+        omega (arith, x.used, rooted p.readable x.root c.in-Some.is),
+        x.used,
+        (tells_some c.in-Some.root x.root c.in-Some.is).0,
+      );
     }
 
 pub returns : goal.returns
 returns c =
     let a = c.args in
     rw (
-      accepted_is a.t.now a.kind a.signature.now a.radius a.list.now (none (goal.at.returns c).Else-refusal-ne-DONE),
-      ← c.signature_at-q.ensures,
+      accepted_is a.t.now a.kind a.signature.now a.radius a.list.now
+          (sym (none (goal.at.returns c).In_ok-own_tests)),
+      ← c.signature_at.ensures,
     )
     c.accepted.ensures

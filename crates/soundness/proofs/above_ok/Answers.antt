@@ -1,9 +1,9 @@
 -- `soundness::above_ok` meets its contract, one law of `passes` for each way through it; the distance is the same both
 -- ways. Assumes nothing.
-use Rattle.std.specs.Prelude.{ℕ, ◌≤◌, ◌≡◌, List}
+use Rattle.std.specs.Prelude.{ℕ, ◌≤◌, ◌<◌, ◌≡◌, List}
 use Rattle.std.proofs.Common.{sym, ap, ◌∙◌, arith}
 use Rattle.distance.specs.Kind.{apart, apart_distance}
-use Rattle.table.specs.Record.{record_of}
+use Rattle.table.specs.Record.{record_of, no_slot}
 use Rattle.table.specs.Stands.{Stands}
 use Rattle.soundness.specs.Climb.{passes_far, passes_root, passes_child, siblings_pass}
 use Rattle.soundness.specs.HoldsCard.{card_stands, parent_card}
@@ -21,7 +21,7 @@ turned kind far b x e = e ∙ (apart_distance kind).both_ways b x
 -- x is within the radius of b
 covered : (c : Then-far-radius_of) →
     let a = c.args in
-    apart a.kind a.x.readings (record_of a.t.now a.b).readings ≤ (record_of a.t.now a.b).radius
+    apart a.x.query.kind a.x.query.signature.readings (record_of a.t.now a.b).readings ≤ (record_of a.t.now a.b).radius
 covered c = omega (arith, turned _ _ _ _ c.away_from-far.ensures.0, c.radius_of.ensures, c.if-far-radius_of.true)
 
 pub away_from-far-requires : goal.away_from-far-requires
@@ -30,38 +30,42 @@ away_from-far-requires c = here (goal.at.away_from-far-requires c).Start
 pub radius_of-requires : goal.radius_of-requires
 radius_of-requires c = here (goal.at.radius_of-requires c).Start
 
-pub parent_of-p-requires : goal.parent_of-p-requires
-parent_of-p-requires c = here (goal.at.parent_of-p-requires c).Start
+pub parent_of-requires : goal.parent_of-requires
+parent_of-requires c = here (goal.at.parent_of-requires c).Start
+
+-- a parent that was read is one
+some : (p : ℕ) → p < no_slot → p ≡ no_slot → ⊥
+some p h e = omega (arith, h, e)
 
 pub siblings_ok-requires : goal.siblings_ok-requires
 siblings_ok-requires c =
-    let p = c.parent_of-p.ensures in
-    let above = parent_card c.args.t.now c.args.b c.requires.0 c.requires.1 (λ e. c.if-p.false (p ∙ e)) in
-    (c.requires.0, rw p above, turned _ _ _ _ c.away_from-far.ensures.0)
+    let p = c.in-Some.ensures in
+    let above = parent_card c.args.t.now c.args.b c.requires.0 c.requires.1 (λ e. some _ p.1 (p.0 ∙ e)) in
+    (c.requires.0, rw p.0 above, turned _ _ _ _ c.away_from-far.ensures.0)
 
-pub returns-then-p : goal.returns-then-p
-returns-then-p c =
+pub returns-in-None : goal.returns-in-None
+returns-in-None c =
     let a = c.args in
     sym
-    (passes_root (record_of a.t.now) a.kind a.x.readings a.time a.b
-    (covered (goal.at.returns-then-p c).Then-far-radius_of)
-    (sym c.parent_of-p.ensures ∙ c.if-p.true))
+    (passes_root (record_of a.t.now) a.x.query.kind a.x.query.signature.readings a.x.timestamp a.b
+    (covered (goal.at.returns-in-None c).Then-far-radius_of)
+    (sym c.in-None.ensures.0))
 
-pub returns-else-p : goal.returns-else-p
-returns-else-p c =
+pub returns-in-Some : goal.returns-in-Some
+returns-in-Some c =
     let a = c.args in
     let R = record_of a.t.now in
-    let p = c.parent_of-p.ensures in
+    let p = c.in-Some.ensures in
     c.siblings_ok.ensures
-    ∙ ap (siblings_pass R a.kind a.x.readings a.time a.b) p
+    ∙ ap (siblings_pass R a.x.query.kind a.x.query.signature.readings a.x.timestamp a.b) p.0
     ∙ sym
-    (passes_child R a.kind a.x.readings a.time a.b
-    (covered (goal.at.returns-else-p c).Then-far-radius_of)
-    (λ e. c.if-p.false (p ∙ e)))
+    (passes_child R a.x.query.kind a.x.query.signature.readings a.x.timestamp a.b
+    (covered (goal.at.returns-in-Some c).Then-far-radius_of)
+    (λ e. some _ p.1 (p.0 ∙ e)))
 
 pub returns-else-far-radius_of : goal.returns-else-far-radius_of
 returns-else-far-radius_of c =
     let a = c.args in
     sym
-    (passes_far (record_of a.t.now) a.kind a.x.readings a.time a.b
+    (passes_far (record_of a.t.now) a.x.query.kind a.x.query.signature.readings a.x.timestamp a.b
     (omega (arith, turned _ _ _ _ c.away_from-far.ensures.0, c.radius_of.ensures, c.if-far-radius_of.false)))

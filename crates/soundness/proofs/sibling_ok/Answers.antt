@@ -10,17 +10,19 @@ use Rattle.soundness.proofs.sibling_ok.Goals as goal
 pub returns-then-c-b : goal.returns-then-c-b
 returns-then-c-b c =
     let a = c.args in
-    sym (sibling_same (record_of a.t.now) a.kind a.x.readings a.time a.b a.c c.if-c-b.true)
+    let q = a.x.query in
+    sym (sibling_same (record_of a.t.now) q.kind q.signature.readings a.x.timestamp a.b a.c c.if-c-b.true)
 
-pub returns-then-timestamp_of-time : goal.returns-then-timestamp_of-time
-returns-then-timestamp_of-time c =
+pub returns-then-timestamp_of-x : goal.returns-then-timestamp_of-x
+returns-then-timestamp_of-x c =
     let a = c.args in
     let R = record_of a.t.now in
-    let turned = (apart_distance a.kind).both_ways (R a.c).readings a.x.readings in
+    let turned = (apart_distance a.x.query.kind).both_ways (R a.c).readings a.x.query.signature.readings in
     ap₂ leb c.requires.1 (c.away_from.ensures.0 ∙ turned)
-    ∙ sym (sibling_older R a.kind a.x.readings a.time a.b a.c (omega arith))
+    ∙ sym (sibling_older R a.x.query.kind a.x.query.signature.readings a.x.timestamp a.b a.c (omega arith))
 
-pub returns-else-timestamp_of-time : goal.returns-else-timestamp_of-time
-returns-else-timestamp_of-time c =
+pub returns-else-timestamp_of-x : goal.returns-else-timestamp_of-x
+returns-else-timestamp_of-x c =
     let a = c.args in
-    sym (sibling_younger (record_of a.t.now) a.kind a.x.readings a.time a.b a.c (omega arith))
+    let q = a.x.query in
+    sym (sibling_younger (record_of a.t.now) q.kind q.signature.readings a.x.timestamp a.b a.c (omega arith))

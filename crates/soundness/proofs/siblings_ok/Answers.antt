@@ -1,5 +1,5 @@
 -- `soundness::siblings_ok` meets its contract. The loop keeps that the first i children pass; one that does not is the
--- answer no. The measure is what is left of the count. Assumes nothing.
+-- answer no. Assumes nothing.
 use Rattle.std.specs.Prelude.{ℕ, ◌≡◌, Bool, true}
 use Rattle.std.proofs.Common.{sym, ap, ◌∙◌, arith, rules}
 use Rattle.places.specs.Test.{all_none, all_more, all_fails}
@@ -11,14 +11,15 @@ use Rattle.soundness.proofs.siblings_ok.Goals as goal
 
 -- the test of one child
 abbrev passes : Start → ℕ → Bool
-passes b = sibling_passes (record_of b.args.t.now) b.args.kind b.args.x.readings b.args.time b.args.b
+passes b = let a = b.args in
+    sibling_passes (record_of a.t.now) a.x.query.kind a.x.query.signature.readings a.x.timestamp a.b
 
-pub count_of-count-requires : goal.count_of-count-requires
-count_of-count-requires c =
+pub children_of-count-requires : goal.children_of-count-requires
+children_of-count-requires c =
     card_stands c.args.t.now c.args.p c.requires.1
 
 pub loop-i-init : goal.loop-i-init
-loop-i-init c = (search rules, search rules, all_none _)
+loop-i-init c = (search rules, all_none _)
 
 pub child_of-c-requires : goal.child_of-c-requires
 child_of-c-requires c = (
@@ -49,9 +50,8 @@ returns-then-not-sibling_ok c =
 pub loop-i-preserved : goal.loop-i-preserved
 loop-i-preserved c =
     let l = c.loop-i in (
-      omega arith,
-      l.invariant.1,
-      all_more l.i true true _ l.invariant.2
+      l.invariant.0,
+      all_more l.i true true _ l.invariant.1
           (sym (c.if-not-sibling_ok.false)
           ∙ c.sibling_ok.ensures
           ∙ ap (passes (goal.at.loop-i-preserved c).Start) c.child_of-c.ensures),
@@ -63,4 +63,4 @@ returns c =
     let a = c.args in
     let l = c.loop-i in
     let e : l.i ≡ (record_of a.t.now a.p).count = omega arith in
-    rw (← e) l.invariant.2
+    rw (← e) l.invariant.1

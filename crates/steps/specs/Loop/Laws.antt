@@ -2,17 +2,20 @@
 -- nothing.
 use Prim.Native.Nat.{ℕ, zero, suc, ◌+◌, ◌-◌, ◌*◌, ◌≤◌, ◌<◌, min}
 use Rattle.std.specs.Prelude.{◌≡◌, Bool, true, false, ◌&&◌, List, [], ◌∷◌, ◌++◌, leb, ltb, length, get_or, drop, set}
-use Rattle.std.specs.Prelude.{replicate}
+use Rattle.std.specs.Prelude.{replicate, take}
 use Rattle.std.proofs.Math.Path.{refl}
 use Rattle.std.proofs.Common.{sym, ap, ◌∙◌, add-one, below_more, le-leb, lt-ltb, le-ltb, drop_of_length-le}
 use Rattle.std.proofs.Common.{get_or-set_same, get_or-set_other, get_or-take, length-take-le, drop-cons}
 use native.Mathlib.Omega.{arith}
 use Rattle.std.proofs.Math.Decide.{ℕ_discrete}
 use Rattle.std.proofs.lemmas.Bool.{lt-leb}
+use Rattle.std.proofs.lemmas.List.{get_or_past}
+use Rattle.places.specs.Cases.{below_or}
 use Rattle.places.specs.Fill.{zeros_at}
 use Rattle.distance.specs.Laws.{farthest}
 use Rattle.table.specs.Record.{Record, record_of, slot, children}
 use Rattle.table.specs.Same.{slots_length}
+use Rattle.table.specs.Stands.{Stands, Walkable}
 use Rattle.refusals.specs.Limits.{most_children}
 use Rattle.tree.specs.Slots.{keep}
 use Rattle.tree.specs.Search.{least, enters}
@@ -26,6 +29,13 @@ pub count_slots :
     → (record_of l s).count ≤ most_children
     → (record_of l s).count ≤ length (record_of l s).slots
 count_slots l s h = omega (arith, slots_length l s)
+
+pub walkable_slots :
+    (l : List ℕ) (s : ℕ)
+    → Walkable l
+    → Stands l s
+    → (record_of l s).count ≤ length (record_of l s).slots
+walkable_slots l s w h = count_slots l s (w.few s h)
 
 -- ---- a bound so far, and the smallest distance so far
 
@@ -81,6 +91,26 @@ module _ (R : ℕ → Record) (kind : ℕ) (q : List ℕ) (s : ℕ) where
           | no n ↦ omega (arith, get_or-set_other ds k j x 0 n, p.near j)
         ];
       }
+
+  -- .. of all n children, and no place behind them
+  pub compared_all :
+      (n : ℕ) (ds : List ℕ)
+      → n ≤ length ds
+      → Compared R kind q s n ds
+      → (length (take n ds) ≡ n) × Compared R kind q s (length (take n ds)) (take n ds)
+  compared_all n ds h p =
+      let long = length-take-le n ds h in (
+        long,
+        record {
+          each = λ k b. get_or-take n ds k 0 (omega arith) ∙ p.each k (omega arith);
+          near = λ k.
+              below_or
+              k
+              n
+              (λ b. omega (arith, get_or-take n ds k 0 b, p.near k))
+              (λ past. omega (arith, get_or_past (take n ds) k 0 (omega arith)));
+        },
+      )
 
 -- the smallest of the distances compared is that of the definition
 pub nearest_compared :

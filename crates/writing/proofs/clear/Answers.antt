@@ -5,13 +5,12 @@ use Rattle.writing.specs.Clear.{cleared, clear_done, clear_refused}
 use Rattle.writing.specs.Run.{zeroed_all}
 use Rattle.writing.proofs.clear.Goals as goal
 
-pub returns-then-right_size : goal.returns-then-right_size
-returns-then-right_size c =
-    let l = c.args.t.now in
-    let right = sym c.right_size.ensures ∙ c.if-right_size.true in
-    ap (cleared done) (c.zero.ensures ∙ zeroed_all l) ∙ sym (clear_done l right)
+pub returns-then-not-right_size : goal.returns-then-not-right_size
+returns-then-not-right_size c =
+    sym (clear_refused c.args.t.now (sym c.right_size.ensures ∙ c.if-not-right_size.true))
 
-pub returns-else-right_size : goal.returns-else-right_size
-returns-else-right_size c =
+pub returns : goal.returns
+returns c =
     let l = c.args.t.now in
-    sym (clear_refused l (sym c.right_size.ensures ∙ c.if-right_size.false))
+    let right = sym c.right_size.ensures ∙ c.if-not-right_size.false in
+    ap (cleared done) (c.zero.ensures ∙ zeroed_all l) ∙ sym (clear_done l right)

@@ -1,22 +1,16 @@
--- `table::write::zero` meets its contract. The loop's invariant: the first k bytes are zero. Assumes nothing.
-use Rattle.std.specs.Prelude.{◌≡◌}
-use Rattle.std.proofs.Common.{arith, rules}
-use Rattle.writing.specs.Put.{zeroed}
-use Rattle.writing.specs.Run.{zeroed_more}
+-- `writing::zero` meets its contract: a part filled with zeros is its bytes made zero one by one. Assumes nothing.
+use Rattle.std.specs.Prelude.{ℕ, ◌+◌, ◌-◌, ◌≡◌, length, take, drop, replicate}
+use Rattle.std.proofs.Common.{ap, sym, ◌∙◌, arith}
+use Rattle.std.proofs.lemmas.Grind.{common_steps}
+use Rattle.std.proofs.lemmas.List.{length-replicate}
+use Rattle.std.proofs.lemmas.Slice.{put_mid-paste}
+use Rattle.writing.specs.Run.{zeroed_at_once}
 use Rattle.writing.proofs.zero.Goals as goal
-
-pub loop-k-init : goal.loop-k-init
-unfolding zeroed
-loop-k-init c = search rules
-
-pub loop-k-preserved : goal.loop-k-preserved
-loop-k-preserved c =
-    let l = c.loop-k in
-    let a = c.args in
-    (omega arith, search rules, zeroed_more a.t.now a.from l.k l.t l.invariant.2)
 
 pub returns : goal.returns
 returns c =
-    let l = c.loop-k in
-    let e : l.k ≡ c.args.n = omega arith in
-    rw e at l.invariant.2
+    let a = c.args in
+    let size : length (take (a.from + a.n - a.from) (drop a.from a.t.now)) ≡ a.n = grind (arith, common_steps) in
+    let zeros = c.fill.ensures.after (λ y e. e) ∙ ap (λ (m : ℕ). replicate m 0) size in
+    put_mid-paste a.from _ a.t.now _ (replicate a.n 0) a.n zeros (omega arith) (sym (length-replicate a.n 0))
+    ∙ zeroed_at_once a.t.now a.from a.n (omega arith)

@@ -1,13 +1,10 @@
 -- `below::clock::largest_staying` meets its contract. The loop's invariant: it is the largest of the first s. Assumes
 -- nothing.
-use Rattle.std.specs.Prelude.{◌-◌, ◌≤◌, ◌≡◌}
+use Rattle.std.specs.Prelude.{◌≡◌}
 use Rattle.table.specs.Record.{record_of}
 use Rattle.survey.specs.Survey.{largest_timestamp}
 use Rattle.below.specs.Loop.Clock.{unmarked}
 use Rattle.below.proofs.clock.largest_staying.Given as goal
 
 abbrev pub invariant-loop-s : goal.invariant-loop-s
-invariant-loop-s l = (l.s ≤ l.n) × (l.largest ≡ largest_timestamp l.s (unmarked l.marks (record_of l.t)))
-
-abbrev pub decreases-loop-s : goal.decreases-loop-s
-decreases-loop-s l = l.n - l.s
+invariant-loop-s l = l.largest ≡ largest_timestamp l.s (unmarked l.marks (record_of l.t))

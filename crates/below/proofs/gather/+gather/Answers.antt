@@ -7,7 +7,7 @@ use Rattle.table.specs.Same.{slots_length}
 use Rattle.table.specs.Stands.{Stands, Walkable}
 use Rattle.below.specs.Loop.Gather.{Gathered, slots_under, gathered}
 use Rattle.below.proofs.Gathering
-use Rattle.below.proofs.gather.+gather.Goals.{At-loop-k, After-slot_of-c}
+use Rattle.below.proofs.gather.+gather.Goals.{At-loop-k, After-child_of-c}
 use Rattle.below.proofs.gather.+gather.Goals as goal
 
 -- a record's children are among its slots
@@ -24,7 +24,7 @@ on t c =
     let a = c.args in
     let R = record_of a.t.now in
     let rest = Gathering.rest_from R (a.left - 1) a.a 0 in
-    c.loop-k.invariant.1
+    c.loop-k.invariant
     ∙ ap (λ (l : List ℕ). gathered R l (a.m + 1) rest) c.note_key.ensures
     ∙ Gathering.gathered_first R a.keys.now a.m a.a rest
     ∙ ap (gathered R a.keys.now a.m) (sym (Gathering.under_first R a.left a.a c.if-left-eq0.false))
@@ -43,17 +43,17 @@ reach t c =
     ∙ Gathering.gathered_at R a.keys.now a.m (slots_under R a.left a.a)
 
 -- what is left is what stands at or below this child, and then the rest
-more : (t : ℕ) (c : After-slot_of-c t) →
+more : (t : ℕ) (c : After-child_of-c t) →
     let a = c.args in
     let R = record_of a.t.now in
     Gathering.rest_from R (a.left - 1) a.a c.loop-k.k
-    ≡ slots_under R (a.left - 1) c.slot_of-c.result ++ Gathering.rest_from R (a.left - 1) a.a (c.loop-k.k + 1)
+    ≡ slots_under R (a.left - 1) c.child_of-c.result ++ Gathering.rest_from R (a.left - 1) a.a (c.loop-k.k + 1)
 more t c =
     let a = c.args in
-    Gathering.rest_more (record_of a.t.now) (a.left - 1) a.a c.loop-k.k c.slot_of-c.result
+    Gathering.rest_more (record_of a.t.now) (a.left - 1) a.a c.loop-k.k c.child_of-c.result
     (fits a.t.now a.a c.requires.0 c.requires.1)
-    (omega (arith, c.children_of-n.ensures, c.loop-k-test.true))
-    c.slot_of-c.ensures
+    (omega (arith, c.children_of-k-end.ensures, c.loop-k-test.true))
+    c.child_of-c.ensures
 
 pub returns-then-left-eq0 : goal.returns-then-left-eq0
 returns-then-left-eq0 t c =
@@ -79,13 +79,13 @@ gather-at-requires t c =
       omega arith,
       (
         p.0,
-        rw c.slot_of-c.ensures
-            (p.0.stand a.a c.loop-k.k p.1 (omega (arith, c.children_of-n.ensures, c.loop-k-test.true))),
+        rw c.child_of-c.ensures
+            (p.0.stand a.a c.loop-k.k p.1 (omega (arith, c.children_of-k-end.ensures, c.loop-k-test.true))),
         p.2,
         omega (
           arith,
-          ap length (more t at.After-slot_of-c),
-          length-append (slots_under R (a.left - 1) c.slot_of-c.result)
+          ap length (more t at.After-child_of-c),
+          length-append (slots_under R (a.left - 1) c.child_of-c.result)
               (Gathering.rest_from R (a.left - 1) a.a (c.loop-k.k + 1)),
           reach t at.At-loop-k,
           p.3,
@@ -98,14 +98,12 @@ loop-k-preserved t c =
     let l = c.loop-k in
     let a = c.args in
     let R = record_of a.t.now in
-    let low = slots_under R (a.left - 1) c.slot_of-c.result in
-    let rest = Gathering.rest_from R (a.left - 1) a.a (l.k + 1) in (
-      omega arith,
-      ap (λ (g : Gathered). gathered R g.keys g.at rest) c.gather-at.ensures
-          ∙ sym (Gathering.gathered_append R l.keys l.at low rest)
-          ∙ ap (gathered R l.keys l.at) (sym (more t (goal.at.loop-k-preserved t c).After-slot_of-c))
-          ∙ l.invariant.1,
-    )
+    let low = slots_under R (a.left - 1) c.child_of-c.result in
+    let rest = Gathering.rest_from R (a.left - 1) a.a (l.k + 1) in
+    ap (λ (g : Gathered). gathered R g.keys g.at rest) c.gather-at.ensures
+    ∙ sym (Gathering.gathered_append R l.keys l.at low rest)
+    ∙ ap (gathered R l.keys l.at) (sym (more t (goal.at.loop-k-preserved t c).After-child_of-c))
+    ∙ l.invariant
 
 pub returns : goal.returns
 returns t c =
@@ -114,5 +112,5 @@ returns t c =
     let R = record_of a.t.now in
     Gathering.gathered_none R h.keys h.at (Gathering.rest_from R (a.left - 1) a.a h.k)
     (Gathering.rest_end R (a.left - 1) a.a h.k (fits a.t.now a.a c.requires.0 c.requires.1)
-    (omega (arith, c.children_of-n.ensures, c.loop-k-test.false)))
+    (omega (arith, c.children_of-k-end.ensures, c.loop-k-test.false)))
     ∙ on t (goal.at.returns t c).At-loop-k

@@ -28,10 +28,6 @@ whole c =
 long : (c : After-gather-m) → length (take c.gather-m.result c.gather-m.new.keys) ≡ length (slots c)
 long c = ap length (whole c).2 ∙ length-map (slots c) (key_of (record_of c.args.t.now))
 
-pub gather-m-requires : goal.gather-m-requires
-gather-m-requires c =
-    let p = c.requires in (p.0, p.1, p.2, omega (arith, p.3))
-
 pub slice_bounds-oldest_first-end : goal.slice_bounds-oldest_first-end
 slice_bounds-oldest_first-end c =
     let w = whole (goal.at.slice_bounds-oldest_first-end c).After-gather-m in
@@ -41,10 +37,6 @@ pub slice_bounds-oldest_first-end-2 : goal.slice_bounds-oldest_first-end-2
 slice_bounds-oldest_first-end-2 c =
     let p = (goal.at.slice_bounds-oldest_first-end-2 c).After-gather-m in
     (whole p).0 ∙ sym (long p)
-
-pub oldest_first-requires : goal.oldest_first-requires
-oldest_first-requires c =
-    omega (arith, long (goal.at.oldest_first-requires c).After-gather-m, c.requires.3, c.requires.4)
 
 pub returns : goal.returns
 returns c =

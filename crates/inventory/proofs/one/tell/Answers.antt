@@ -9,8 +9,7 @@ use Rattle.inventory.proofs.one.tell.Goals as goal
 pub returns-then-row-lt-SIGNATURE : goal.returns-then-row-lt-SIGNATURE
 returns-then-row-lt-SIGNATURE c =
     let a = c.args in
-    let x = c.refused.ensures in
-    rw (x.0, x.1) (telling_short (record_of a.t.now a.s) a.row.now c.if-row-lt-SIGNATURE.true)
+    telling_short (record_of a.t.now a.s) a.row.now c.if-row-lt-SIGNATURE.true
 
 pub returns : goal.returns
 returns c =

@@ -1,11 +1,7 @@
 -- `table::is_free` meets its contract. The loop's invariant: the first k words are zero. Assumes nothing.
-use Rattle.std.specs.Prelude.{◌≤◌, ◌-◌}
 use Rattle.table.specs.Record.{place_of}
 use Rattle.table.specs.Fields.{ZeroWords}
 use Rattle.table.proofs.read.is_free.Given as goal
 
 abbrev pub invariant-loop-k : goal.invariant-loop-k
-invariant-loop-k l = (l.k ≤ 8) × ZeroWords l.t (place_of l.s) l.k
-
-abbrev pub decreases-loop-k : goal.decreases-loop-k
-decreases-loop-k l = 8 - l.k
+invariant-loop-k l = ZeroWords l.t (place_of l.s) l.k

@@ -1,30 +1,13 @@
--- `table::slot_of` meets its contract: what is read is that field of the record. Assumes nothing.
-use Rattle.std.proofs.Common.{sym, ◌∙◌, arith, rules}
+-- `table::slot_of` meets its contract: the slots stand one after another, two bytes each. Assumes nothing.
+use Rattle.std.specs.Prelude.{◌+◌, ◌*◌, ◌≡◌}
+use Rattle.std.proofs.Common.{ap, sym, ◌∙◌, arith}
+use Rattle.number.specs.Number.{number_at}
+use Rattle.table.specs.Record.{place_of, slots_at}
 use Rattle.table.specs.Same.{slot_at}
-use Rattle.table.specs.Stands.{Stands}
 use Rattle.table.proofs.read.slot_of.Goals as goal
-
-pub overflow_mul-s : goal.overflow_mul-s
-unfolding Stands
-overflow_mul-s c = search rules
-
-pub overflow_add-s : goal.overflow_add-s
-unfolding Stands
-overflow_add-s c = search rules
-
-pub overflow_mul-i : goal.overflow_mul-i
-unfolding Stands
-overflow_mul-i c = search rules
-
-pub overflow_add-s-2 : goal.overflow_add-s-2
-unfolding Stands
-overflow_add-s-2 c = search rules
-
-pub get_u16-requires : goal.get_u16-requires
-unfolding Stands
-get_u16-requires c = search rules
 
 pub returns : goal.returns
 returns c =
     let a = c.args in
-    c.get_u16.ensures ∙ sym (slot_at a.t.now a.s a.i (omega arith))
+    let place : place_of a.s + (16 + 2 * a.i) ≡ slots_at (place_of a.s) + 2 * a.i = omega arith in
+    c.field.ensures ∙ ap (number_at 2 a.t.now) place ∙ sym (slot_at a.t.now a.s a.i (omega arith))

@@ -1,0 +1,2 @@
+-- What the loops' proofs stand on.
+pub mod NextTaken
