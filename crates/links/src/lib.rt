@@ -88,7 +88,8 @@ fn record_ok(t: &[u8], n: usize, s: usize) -> bool
 
 // What a pass has seen of the records before a slot, all of which fit: the kind of the last used one, how many of all
 // records were not found free, how many children they count, and whether timestamps rise with the slots, so that they
-// need not be told apart; and for the calls the lowest free slot, the largest timestamp and the slot of the root.
+// need not be told apart; and for the calls the lowest free slot, the largest timestamp and the slot of the root. What
+// is used counts down from all records: counted up, judging a full table took up to a fifth longer.
 #[derive(Clone, Copy)]
 pub struct Seen {
     pub kind: Option<u8>,

@@ -15,6 +15,7 @@ pub trait LowByteFirst<const N: usize>: Copy {
         ensures { result ≡ digits N (value self) };
 }
 
+// An instance for each width, by its type's own conversion: an impl that a macro writes is refused.
 impl LowByteFirst<2> for u16 {
     ghost value = { λ v. v };
 

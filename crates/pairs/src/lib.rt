@@ -15,7 +15,7 @@ pub struct Pair {
     pub distance: u32,
 }
 
-// What a search answers: its pairs, of which the first n count, and the distances worked out.
+// What a search answers: its pairs, in a row of fixed memory of which the first n count, and the distances worked out.
 #[derive(Clone, Copy)]
 pub struct Answer {
     pub pairs: [Pair; NEAREST],

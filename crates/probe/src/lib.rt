@@ -11,6 +11,7 @@ use refusals::limit::SIGNATURE;
 use survey::Findings;
 use table::RECORD;
 
+// A C function answers a number.
 const NO_ANSWER: u32 = 4294967295;
 
 // The distance of two signatures.

@@ -25,7 +25,8 @@ const NO_BOUND: u64 = 4294967296;
 // Nothing is compared and nothing found in a free table.
 const NOTHING: Found = Found { count: 0, found: 0 };
 
-// The refusals of an admitted table, in their order: by what the search is told, by the table's kind, and by the room
+// The refusals of an admitted table, in their order, each call's own since each has a wrong version of its own: by what
+// the search is told, by the table's kind, and by the room
 // in the list.
 fn own_tests(there: Findings, kind: u8, signature: &[u8], room: usize) -> Result<(), Refusal>
     ensures { (l : List ℕ)

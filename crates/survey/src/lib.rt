@@ -7,7 +7,7 @@ ghost use Rattle.survey.specs.Survey.{slot_of_card};
 ghost use Rattle.survey.specs.Answers.{Tells};
 
 // What the pass over a table finds: how many records are used, the lowest free slot, if one is free, the largest
-// timestamp in use, the root's slot, if there is a root, and the kind.
+// timestamp in use, the root's slot, if there is a root, and the kind, which is 0 in a free table, as `kind_of` has it.
 #[derive(Clone, Copy)]
 pub struct Findings {
     pub used: usize,

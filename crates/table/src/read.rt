@@ -1,4 +1,6 @@
-// The fields of the record in slot s, read where they stand.
+// The fields of the record in slot s, read where they stand. Each has a reader of one line under its own name, which
+// reads plainer at a call than the generic one, and than a struct of the bytes and the slot; such a struct could not be
+// held over a write either.
 ghost use Rattle.std.specs.Prelude.{◌≡◌, ◌+◌, ◌≤◌, ◌<◌, IfSome, eqb};
 ghost use Rattle.number.specs.Number.{number_at};
 ghost use Rattle.places.specs.Decides.{Decides};
