@@ -9,7 +9,7 @@ use mathlib.Core.List.{List, [], ◌∷◌}
 use native.Mathlib.Omega.{arith}
 use Rattle.std.proofs.Math.Dec.{ltb}
 use Rattle.std.proofs.Math.ListN.{length}
-use borrow.Author.Tests.{ne_eqb}
+use borrow.Author.Tests.{eq-eqb, ne_eqb}
 use Rattle.places.specs.Choice.{pick}
 use Rattle.table.specs.Record.{Record, children}
 use Rattle.table.specs.Table.{at}
@@ -44,7 +44,12 @@ pick_first p t y z e = rw e
 pick_second : {A : Type 0} (p t : Bool) (y z : A) → p ≡ false → pick (p || t) y z ≡ pick t y z
 pick_second p t y z e = rw e
 
--- the same of three parts, where neither of two holds
+-- the same of three parts, where the second holds
+pick_either : {A : Type 0} (p q t : Bool) (y z : A) → q ≡ true → pick ((p || q) || t) y z ≡ y
+pick_either true q t y z e = refl
+pick_either false q t y z e = rw e
+
+-- and where neither of the first two holds
 pick_third : {A : Type 0} (p q t : Bool) (y z : A) → p ≡ false → q ≡ false → pick ((p || q) || t) y z ≡ pick t y z
 pick_third p q t y z e f = rw (e, f)
 
@@ -192,3 +197,31 @@ module _ (d : List ℕ → List ℕ → ℕ) (x : List ℕ) (arity : ℕ) (rows 
           (λ (b : ℕ). rest (keep (not (hangs d view x arity a b)) (path d view x arity f b)))
           (sym best_is)
           ∙ turned f
+
+    -- the same whether a has a child or none: `best`, at the distance e, is the nearest if there is one
+    pub descended_either :
+        (best e : ℕ)
+        → ((c : ℕ) (l : List ℕ) → children (at rows a) ≡ c ∷ l → near best e ≡ nearest_of d view x c l)
+        → (f : ℕ)
+        → descended d x arity rows (suc f) a count
+        ≡ pick
+        ((eqb n 0 || eqb f 0) || (ltb apart_at e && ltb n arity))
+        (descent lifted a (count + n))
+        (descended d x arity lifted f best (count + n))
+    descended_either best e found f = go (children (at rows a)) refl
+      where
+        go :
+            (cs : List ℕ)
+            → children (at rows a) ≡ cs
+            → descended d x arity rows (suc f) a count
+            ≡ pick
+            ((eqb n 0 || eqb f 0) || (ltb apart_at e && ltb n arity))
+            (descent lifted a (count + n))
+            (descended d x arity lifted f best (count + n))
+        go [] h =
+            let none : eqb n 0 ≡ true = eq-eqb n 0 (children-n ∙ ap length h) in
+            rw none (descended_leaf f h)
+        go (c ∷ l) h =
+            let some : n ≡ 0 → ⊥ = λ z. omega (arith, children-n ∙ ap length h) in
+            let one : eqb n 0 ≡ false = ne_eqb n 0 some in
+            rw one (descended_turn c l h best e (found c l h) f)

@@ -1,5 +1,5 @@
 -- Loop: the scan for the nearest child (`scanned`): of some children it gives the one that the definition calls
--- nearest, with its distance (`scanned_nearest`). Assumes nothing.
+-- nearest, with its distance (`scanned_nearest`; `scanned_over` from a start that is farther). Assumes nothing.
 use Prim.Native.Nat.{ℕ, ◌+◌, ◌≤◌, ◌<◌}
 use Rattle.std.specs.Prelude.{Bool, Option, Some, None, MatchOption, IsTrue, cond, ◌≡◌, get_or, drop}
 use Rattle.std.proofs.Math.Bool.{true, false}
@@ -8,6 +8,7 @@ use Rattle.std.proofs.Common.{add-one, drop-cons, drop_of_length-le}
 use mathlib.Core.List.{List, [], ◌∷◌}
 use Rattle.std.proofs.Math.Dec.{ltb}
 use Rattle.std.proofs.Math.ListN.{length}
+use borrow.Author.Tests.{lt-ltb}
 use Rattle.places.specs.Choice.{pick}
 use Rattle.tree.specs.View.{View, away}
 use Rattle.tree.specs.Insert.{nearest}
@@ -81,3 +82,13 @@ module _ {Sig : Type 0} (d : Sig → Sig → ℕ) (v : View Sig) (x : Sig) where
   pub scanned_nearest : (c : ℕ) (l : List ℕ) → scanned (away d v x) None (c ∷ l) ≡ Some (nearest_of c l)
   unfolding scanned nearer
   scanned_nearest c l = scanned_is c l
+
+  -- a start above the first child's distance is passed over
+  pub scanned_over :
+      (a e c : ℕ) (l : List ℕ)
+      → away d v x c < e
+      → scanned (away d v x) (Some (near a e)) (c ∷ l) ≡ Some (nearest_of c l)
+  unfolding scanned nearer
+  scanned_over a e c l h =
+      let t : ltb (away d v x c) e ≡ true = lt-ltb (away d v x c) e h in
+      rw t (scanned_is c l)
