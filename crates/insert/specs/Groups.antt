@@ -5,14 +5,25 @@ use Rattle.std.proofs.lemmas.Bool.{false≢true, lt-leb}
 use Rattle.std.proofs.Common.{sym, lt-ltb, le-ltb, le-leb}
 use Rattle.table.specs.Record.{record_of}
 use Rattle.table.specs.Table.{records_in}
+use Rattle.survey.specs.declared.Findings.{Findings}
 use Rattle.survey.specs.Survey.{slot_of_card, lowest_free, largest_timestamp}
+use Rattle.survey.specs.Answers.{Answers, slot_or}
 use Rattle.refusals.specs.Refusal.{Test, first_of, done, ARGUMENT, KIND, TWICE, FULL, CLOCK}
 use Rattle.refusals.specs.Limits.{last_timestamp}
 use Rattle.admission.specs.Admission.{admission_tests, table_refuses, own_first}
-use Rattle.admission.specs.Query.{other_kind}
+use Rattle.admission.specs.Query.{other_kind, other_found, other_found_lem}
 use Rattle.insert.specs.Insert.{right_arguments, refusal_of}
 
 -- ---- the groups
+
+-- by what a table of n records holds, of its survey's findings, where the card stands in `slot`
+abbrev pub held_by : Findings → ℕ → ℕ → ℕ → List Test
+held_by f n kind slot =
+    (other_found f kind, KIND)
+    ∷ (ltb slot n, TWICE)
+    ∷ (leb n (slot_or n f.lowest), FULL)
+    ∷ (leb last_timestamp f.largest, CLOCK)
+    ∷ []
 
 -- none of five tests holds: each of them does not
 pub none_of_five :
@@ -42,6 +53,15 @@ module _ (l : List ℕ) (card kind arity : ℕ) (s : List ℕ) where
   -- all that are insert's own
   abbrev pub own_tests : List Test
   own_tests = (not (right_arguments card kind arity s), ARGUMENT) ∷ held_tests
+
+  -- the survey's answers give the definition's tests
+  pub found_held :
+      {f : Findings}
+      → Answers n (record_of l) f
+      → (slot : ℕ)
+      → slot ≡ slot_of_card n (record_of l) card
+      → first_of (held_by f n kind slot) ≡ first_of held_tests
+  found_held answers slot at_slot = rw (other_found_lem kind answers, answers.lowest.0, answers.largest, at_slot)
 
   -- ---- insert's own refusal
 
