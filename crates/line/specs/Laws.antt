@@ -1,13 +1,13 @@
 -- Lines as the code writes them: a row number by number, a line part by part; and how long they are. Assumes nothing.
-use Rattle.std.specs.Prelude.{ℕ, ◌+◌, ◌≤◌, ◌<◌, ◌≡◌, refl, Option, IsSome, Some, None, unwrap_or}
+use Rattle.std.specs.Prelude.{ℕ, suc, ◌+◌, ◌-◌, ◌≤◌, ◌<◌, ◌≡◌, refl, Option, IsSome, Some, None, unwrap_or}
 use Rattle.std.specs.Prelude.{List, [], ◌∷◌, ◌++◌, length, get_or, take, drop, map, sum}
 use Rattle.std.proofs.Common.{sym, ap, subst, ◌∙◌, append_assoc, append-nil, arith, add-one, le-leb}
-use Rattle.std.proofs.Common.{length-append, drop-cons}
+use Rattle.std.proofs.Common.{length-append, drop-cons, get_or-take, length-take-le}
 use Rattle.std.proofs.Math.Decide.{dec_le}
 use Rattle.std.proofs.Math.ListN.{drop_of_length-le}
 use Rattle.std.proofs.lemmas.Bool.{lt-leb}
 use Rattle.std.proofs.lemmas.Grind.{common_steps}
-use Rattle.std.proofs.lemmas.List.{take-append-drop, take_more}
+use Rattle.std.proofs.lemmas.List.{take-append-drop, take_more, drop-take}
 use Rattle.std.proofs.lemmas.List.Edits.{sets, sets-eq}
 use Rattle.std.proofs.Math.Seq.{take-append_seam}
 use Rattle.places.specs.Fill.{sets_append}
@@ -105,6 +105,67 @@ row_parts ns i x h e =
     ∙ row_append (take i ns) (drop i ns)
     ∙ ap (λ (l : List ℕ). row_of (take i ns) ++ l) (row_next ns i h)
     ∙ ap (λ (y : ℕ). row_of (take i ns) ++ ((space ∷ decimal y) ++ row_left ns (i + 1))) (sym e)
+
+-- ---- a row of the first k numbers alone: what is left of them from i on
+
+unfoldable pub row_part : List ℕ → ℕ → ℕ → List ℕ
+row_part ns k i = row_of (take (k - i) (drop i ns))
+
+-- which is what is left of the row of these
+part_left : (ns : List ℕ) (k i : ℕ) → i ≤ k → row_part ns k i ≡ row_left (take k ns) i
+unfolding row_part row_left
+part_left ns k i h =
+    let all : i + (k - i) ≡ k = omega arith in
+    ap row_of (sym (drop-take i (k - i) ns) ∙ ap (λ (n : ℕ). drop i (take n ns)) all)
+
+pub part_whole : (ns : List ℕ) (k : ℕ) → row_part ns k 0 ≡ row_of (take k ns)
+part_whole ns k = part_left ns k 0 (omega arith) ∙ row_whole (take k ns)
+
+-- the next number
+pub part_next :
+    (ns : List ℕ) (k i : ℕ)
+    → i < k
+    → k ≤ length ns
+    → row_part ns k i ≡ (space ∷ decimal (get_or ns i 0)) ++ row_part ns k (i + 1)
+part_next ns k i h b =
+    part_left ns k i (omega arith)
+    ∙ row_next (take k ns) i (omega (arith, length-take-le k ns b))
+    ∙ ap (λ (x : ℕ). (space ∷ decimal x) ++ row_left (take k ns) (i + 1)) (get_or-take k ns i 0 h)
+    ∙ ap (λ (l : List ℕ). (space ∷ decimal (get_or ns i 0)) ++ l) (sym (part_left ns k (i + 1) (omega arith)))
+
+-- none is left
+pub part_over : (ns : List ℕ) (k i : ℕ) → k ≤ i → row_part ns k i ≡ []
+unfolding row_part row_of
+part_over ns k i h =
+    let none : k - i ≡ 0 = omega arith in
+    ap (λ (j : ℕ). row_of (take j (drop i ns))) none
+
+-- how many bytes the next number x takes of what is left
+pub part_next_length :
+    (ns : List ℕ) (k i x : ℕ)
+    → i < k
+    → k ≤ length ns
+    → x ≡ get_or ns i 0
+    → length (row_part ns k i) ≡ suc (length (decimal x)) + length (row_part ns k (i + 1))
+part_next_length ns k i x h b e =
+    ap length (part_next ns k i h b)
+    ∙ length-append (space ∷ decimal (get_or ns i 0)) (row_part ns k (i + 1))
+    ∙ ap (λ (y : ℕ). suc (length (decimal y)) + length (row_part ns k (i + 1))) (sym e)
+
+-- a turn: the next number x is written, and what is left goes behind it
+pub part_turn :
+    (ns l m : List ℕ) (k i at end x : ℕ)
+    → i < k
+    → k ≤ length ns
+    → x ≡ get_or ns i 0
+    → end ≡ at + suc (length (decimal x))
+    → m ≡ sets l at (space ∷ decimal x)
+    → sets m end (row_part ns k (i + 1)) ≡ sets l at (row_part ns k i)
+part_turn ns l m k i at end x h b e p q =
+    let rest = row_part ns k (i + 1) in
+    behind (space ∷ decimal x) rest l m (sets m end rest) at end q p refl
+    ∙ ap (λ (y : ℕ). sets l at ((space ∷ decimal y) ++ rest)) e
+    ∙ ap (λ (r : List ℕ). sets l at r) (sym (part_next ns k i h b))
 
 -- ---- a line: its number, the numbers of its head, the cards, and its end
 
