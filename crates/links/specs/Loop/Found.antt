@@ -1,9 +1,10 @@
 -- Loop: the first slot that passes a test, and the one slot that does, among those before s, as a pass finds them; none
 -- if no slot does. Assumes nothing.
-use Rattle.std.specs.Prelude.{ℕ, ◌+◌, ◌≤◌, ◌<◌, ◌≡◌, refl, Bool, true, false, Option, Some, None, IfSome, is_some}
+use Rattle.std.specs.Prelude.{ℕ, ◌+◌, ◌≤◌, ◌<◌, ◌≡◌, refl, Bool, true, false, ◌⊎◌, Option, Some, None, IfSome, is_some}
 use Rattle.std.specs.Option.{option_or, unwrap_or}
-use Rattle.std.proofs.Common.{sym, ◌∙◌, arith, below_more}
+use Rattle.std.proofs.Common.{sym, ◌∙◌, inr, arith, below_more}
 use Rattle.std.proofs.Math.Path.{ap}
+use Rattle.std.proofs.Math.Logic.{inl}
 use mir.Val.{bool_byte}
 use Rattle.places.specs.Choice.{pick}
 use Rattle.places.specs.Test.{count_to, count_more, count_still, count_grows}
@@ -17,6 +18,10 @@ NoneBefore p s = (j : ℕ) → j < s → p j ≡ false
 abbrev pub FirstBefore : (ℕ → Bool) → ℕ → Option ℕ → Type 0
 FirstBefore p s None = NoneBefore p s
 FirstBefore p s (Some a) = (a < s) × (p a ≡ true) × NoneBefore p a
+
+-- a is one of the slots before s that pass, if any does, and else n
+abbrev pub SomeBefore : (ℕ → Bool) → ℕ → ℕ → ℕ → Type 0
+SomeBefore p n s a = ((a ≡ n) × ((j : ℕ) → j < s → p j ≡ false)) ⊎ ((a < s) × (p a ≡ true))
 
 -- what is found is the only one of them
 abbrev pub OneBefore : (ℕ → Bool) → ℕ → Option ℕ → Type 0
@@ -101,22 +106,40 @@ module _ (p : ℕ → Bool) where
         }))
 
     -- where no two pass, one is the first
+    pub some_end :
+        (a : ℕ) → ((i j : ℕ) → i < n → j < n → p i ≡ true → p j ≡ true → i ≡ j) → SomeBefore p n n a
+        → a ≡ first_from p 0 n
+    some_end a one (inl h) =
+        sym
+        (first_is p 0 n a
+        (record {
+          from = omega arith;
+          to = omega (arith, h.0);
+          passes = λ l. absurd (omega (arith, h.0));
+          before = λ j l b. h.1 j (omega (arith, h.0));
+        }))
+    some_end a one (inr h) =
+        sym
+        (first_is p 0 n a
+        (record {
+          from = omega arith;
+          to = omega (arith, h.0);
+          passes = λ l. h.1;
+          before = λ j l b. other j b (p j) refl;
+        }))
+      where
+        other : (j : ℕ) → j < a → (t : Bool) → p j ≡ t → t ≡ false
+        other j b true e = absurd (omega (arith, one j a (omega (arith, h.0)) h.0 e h.1))
+        other j b false e = refl
+
+    -- the only one is one of them
+    pub one_some : (s : ℕ) (found : Option ℕ) → OneBefore p s found → SomeBefore p n s (unwrap_or found n)
+    one_some s None f = inl (refl, f.0)
+    one_some s (Some a) f = inr (f.0, f.1)
+
     pub one_end :
         (found : Option ℕ)
         → ((i j : ℕ) → i < n → j < n → p i ≡ true → p j ≡ true → i ≡ j)
         → OneBefore p n found
         → unwrap_or found n ≡ first_from p 0 n
-    one_end None one f = none_end f.0
-    one_end (Some a) one f =
-        sym
-        (first_is p 0 n a
-        (record {
-          from = omega arith;
-          to = omega (arith, f.0);
-          passes = λ l. f.1;
-          before = λ j l b. other j b (p j) refl;
-        }))
-      where
-        other : (j : ℕ) → j < a → (t : Bool) → p j ≡ t → t ≡ false
-        other j b true e = absurd (omega (arith, one j a (omega (arith, f.0)) f.0 e f.1))
-        other j b false e = refl
+    one_end found one f = some_end (unwrap_or found n) one (one_some n found f)
