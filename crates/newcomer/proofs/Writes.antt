@@ -28,6 +28,14 @@ wrote_then {l} {m} {s = s} f before stands write =
 
 -- ---- a radius, and a child
 
+pub raised_more : (r : Record) (away : ℕ) → r.radius < away → with_radius r away ≡ raised away r
+unfolding raised
+raised_more r away h = let e : away ≡ max r.radius away = omega arith in ap (with_radius r) e
+
+pub raised_not : (r : Record) (away : ℕ) → away ≤ r.radius → r ≡ raised away r
+unfolding raised
+raised_not r away h = let e : r.radius ≡ max r.radius away = omega arith in ap (with_radius r) e
+
 -- the larger of the radius and the distance, written as the radius
 pub raised_by :
     (l m : List ℕ) (a away k : ℕ)
