@@ -1,5 +1,5 @@
--- The work as the code's loops meet it: a child is compared, a record is taken, or the work is over; and what is
--- counted by then. Assumes nothing.
+-- The work as the code's loops meet it: a child is compared, a record is taken, or the work is over; what is counted
+-- by then, and which key of the row is taken next. Assumes nothing.
 use Prim.Native.Nat.{ℕ, zero, suc, ◌+◌, ◌-◌, ◌≤◌, ◌<◌, min}
 use Rattle.std.specs.Prelude.{◌≡◌, Bool, cond, length, get_or, take, drop}
 use Rattle.std.proofs.Math.Path.{refl}
@@ -8,12 +8,16 @@ use Rattle.std.proofs.Common.{drop-cons}
 use Rattle.std.proofs.Math.Bool.{true, false}
 use mathlib.Core.List.{List, [], ◌∷◌}
 use native.Mathlib.Omega.{arith}
+use Rattle.order.specs.Among.{falling, falling_last}
 use Rattle.distance.specs.Laws.{farthest}
+use Rattle.refusals.specs.Limits.{most_records}
 use Rattle.table.specs.Record.{Record, slot, children}
 use Rattle.steps.specs.Step.{away_from}
+use Rattle.waiting.specs.declared.Front.{Front}
 use Rattle.waiting.specs.Key.{first_in, slot_in}
 use Rattle.waiting.specs.Front.{State, state, exceeds, lower_from}
 use Rattle.waiting.specs.Front.{meet_one, meet_all, meet_children, take_next, finish}
+use Rattle.waiting.specs.Rows.{front_of}
 
 -- ---- a row from place j up to n
 
@@ -143,3 +147,16 @@ module _ (R : ℕ → Record) (kind : ℕ) (q : List ℕ) (k : ℕ) where
         all_counted (first_in x) farthest (children (R (slot_in x))) (state ws S.held S.count),
         length-take-le (R (slot_in x)).count (R (slot_in x)).slots few,
       )
+
+-- ---- the row
+
+-- the first that waits is the last in its row, which has a place for each record
+pub first_waits :
+    (f : Front)
+    → length f.waits ≡ most_records
+    → 0 < f.waiting
+    → (front_of f).waits ≡ get_or f.waits (f.waiting - 1) 0 ∷ falling (f.waiting - 1) f.waits
+first_waits f room some =
+    let next : f.waiting ≡ suc (f.waiting - 1) = omega arith in
+    ap (λ (n : ℕ). falling n f.waits) next
+    ∙ falling_last f.waits (f.waiting - 1) (omega (arith, room, f.counted, f.within))

@@ -4,9 +4,9 @@ ghost use Rattle.std.specs.Prelude.{◌≡◌, ◌^◌, ◌<◌};
 ghost use Rattle.waiting.specs.Key.{key as Key, first_in, second_in, slot_in, second_span};
 
 // The first counts in steps of FIRST, the second in steps of SECOND.
-const FIRST: u64 = 4398046511104;
+pub const FIRST: u64 = 4398046511104;
 
-const SECOND: u64 = 1024;
+pub const SECOND: u64 = 1024;
 
 pub(crate) fn key(first: u64, second: u32, slot: usize) -> u64
     requires { Key first second slot < 2 ^ 64 }

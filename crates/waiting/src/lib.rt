@@ -12,6 +12,7 @@ ghost use Rattle.waiting.specs.Front.{exceeds as Exceeds, lower_from};
 ghost use Rattle.waiting.specs.Rising.{rising_prop};
 
 use keys::{first_in, key};
+pub use keys::{FIRST, SECOND};
 use refusals::limit::{NEAREST, RECORDS};
 
 pub mod keys;
@@ -19,7 +20,7 @@ pub mod keys;
 // How far the work for the k nearest has come: the first `waiting` of one row wait, the next to be taken last, so that
 // taking it moves nothing; the first `holding` of the other row are held, the nearest first; `count` distances were
 // worked out. Each record that waits was counted.
-#[derive(Drop)]
+#[derive(Clone, Copy)]
 pub struct Front {
     pub k: usize,
     pub count: usize,
@@ -51,7 +52,7 @@ fn lower_bound(t: &[u8], s: usize, p: u64, near: u64, away: u64) -> u64
 {
     let radius = u64::from(table::radius_of(t, s));
     let half = (away.saturating_sub(near) + 1) / 2;
-    p.max(away.saturating_sub(radius)).max(half)
+    p.max(away.saturating_sub(radius).max(half))
 }
 
 impl Front {
