@@ -26,8 +26,7 @@ const NO_BOUND: u64 = 4294967296;
 const NOTHING: Found = Found { count: 0, found: 0 };
 
 // The refusals of an admitted table, in their order, each call's own since each has a wrong version of its own: by what
-// the search is told, by the table's kind, and by the room
-// in the list.
+// the search is told, by the table's kind, and by the room in the list.
 fn own_tests(there: Findings, kind: u8, signature: &[u8], room: usize) -> Result<(), Refusal>
     ensures { (l : List ℕ)
         → first_of (admission_tests l) ≡ done
@@ -60,7 +59,7 @@ fn accepted(t: &[u8], asked: Asked, list: &mut [u32], used: usize, root: usize) 
         bound: NO_BOUND,
     };
     let start = Reached { found: 0, count: 1 };
-    let r = walk::walk(t, asked, list, visit, start, used);
+    let r = walk::walk(t, &asked, list, visit, start, used);
     Found {
         count: r.count as u32,
         found: r.found as u32,

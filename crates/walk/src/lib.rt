@@ -21,18 +21,18 @@ pub struct Reached {
 // distance among them; it starts from one that no distance exceeds, so that the first child is always visited.
 pub fn walk(
     t: &[u8],
-    asked: Asked,
+    asked: &Asked,
     list: &mut [u32],
     visit: Visit,
     start: Reached,
     left: usize,
 ) -> Reached
     requires walkable { Walkable t.now × Stands t.now visit.slot
-        × (visit.away ≡ away_in (asked_of t.now asked) visit.slot) }
+        × (visit.away ≡ away_in (asked_of t.now asked.now) visit.slot) }
     requires fits { Fits list.old
-        (walked (asked_of t.now asked) left visit.slot visit.bound (state_of list.old start)) }
+        (walked (asked_of t.now asked.now) left visit.slot visit.bound (state_of list.old start)) }
     ensures { state_of list.new result
-        ≡ walked (asked_of t.now asked) left visit.slot visit.bound (state_of list.old start) }
+        ≡ walked (asked_of t.now asked.now) left visit.slot visit.bound (state_of list.old start) }
 {
     if left == 0 {
         return start;
@@ -43,6 +43,8 @@ pub fn walk(
     let n = table::children_of(t, visit.slot);
     let compared = asked.distances(t, visit.slot, n);
     let ds = &compared[..n];
+    // Read whole, by which the radius is known to fit four bytes.
+    let _whole = *asked;
     let radius = u64::from(asked.radius);
     let found = steps::note(t, visit.slot, visit.away, radius, list, start.found);
     let mut reached = Reached {

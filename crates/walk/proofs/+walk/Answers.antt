@@ -19,19 +19,19 @@ use Rattle.walk.proofs.+walk.Goals as goal
 -- the test of step 1 is the definition's
 enters_is : (t : ℕ) (c : After-enters t) →
     let a = c.args in
-    Children.enters_at (asked_of a.t.now a.asked) a.visit.slot a.visit.bound ≡ c.enters.result
+    Children.enters_at (asked_of a.t.now a.asked.now) a.visit.slot a.visit.bound ≡ c.enters.result
 enters_is t c =
     let a = c.args in
     sym
     (c.enters.ensures
-    ∙ ap (λ (z : ℕ). is_entered (record_of a.t.now a.visit.slot) z a.asked.radius a.visit.bound)
+    ∙ ap (λ (z : ℕ). is_entered (record_of a.t.now a.visit.slot) z a.asked.now.radius a.visit.bound)
     c.requires.walkable.2)
 
 -- this record is entered: it is noted, and then all its children are left
 entered : (t : ℕ) (c : After-children_of-n t) →
     let a = c.args in
     let v = a.visit in
-    let Q = asked_of a.t.now a.asked in
+    let Q = asked_of a.t.now a.asked.now in
     let S = state_of a.list.now a.start in
     after Q (noted Q v.slot S) (rest_from Q (a.left - 1) v.slot v.bound 0) ≡ walked Q a.left v.slot v.bound S
 entered t c =
@@ -39,21 +39,21 @@ entered t c =
     let v = a.visit in
     let p = c.requires.walkable in
     let slots = Children.walkable_slots a.t.now v.slot p.0 p.1 in
-    Walked.entered_after (asked_of a.t.now a.asked) v.slot slots (state_of a.list.now a.start) a.left v.bound
+    Walked.entered_after (asked_of a.t.now a.asked.now) v.slot slots (state_of a.list.now a.start) a.left v.bound
     c.if-left-eq0.false
     (sym
     (c.enters.ensures
-    ∙ ap (λ (z : ℕ). is_entered (record_of a.t.now v.slot) z a.asked.radius v.bound) p.2)
+    ∙ ap (λ (z : ℕ). is_entered (record_of a.t.now v.slot) z a.asked.now.radius v.bound) p.2)
     ∙ c.if-not-enters.false)
 
 -- what is found and counted then fits
 fits : (t : ℕ) (c : After-children_of-n t) →
     let a = c.args in
-    Fits a.list.now (noted (asked_of a.t.now a.asked) a.visit.slot (state_of a.list.now a.start))
+    Fits a.list.now (noted (asked_of a.t.now a.asked.now) a.visit.slot (state_of a.list.now a.start))
 fits t c =
     let a = c.args in
     let v = a.visit in
-    let Q = asked_of a.t.now a.asked in
+    let Q = asked_of a.t.now a.asked.now in
     Walked.fits_start Q a.list.now (noted Q v.slot (state_of a.list.now a.start))
     (rest_from Q (a.left - 1) v.slot v.bound 0)
     (subst (Fits a.list.now) (sym (entered t c)) c.requires.fits)
@@ -61,14 +61,14 @@ fits t c =
 pub returns-then-left-eq0 : goal.returns-then-left-eq0
 returns-then-left-eq0 t c =
     let a = c.args in
-    let Q = asked_of a.t.now a.asked in
+    let Q = asked_of a.t.now a.asked.now in
     Walked.stays Q (state_of a.list.now a.start) _
     (Children.visit_end Q a.left a.visit.slot a.visit.bound c.if-left-eq0.true)
 
 pub returns-then-not-enters : goal.returns-then-not-enters
 returns-then-not-enters t c =
     let a = c.args in
-    let Q = asked_of a.t.now a.asked in
+    let Q = asked_of a.t.now a.asked.now in
     Walked.stays Q (state_of a.list.now a.start) _
     (Children.visit_out Q a.left a.visit.slot a.visit.bound
     (enters_is t (goal.at.returns-then-not-enters t c).After-enters ∙ c.if-not-enters.true))
@@ -89,7 +89,7 @@ unfolding smallest_to
 loop-k-init t c =
     let a = c.args in
     let v = a.visit in
-    let Q = asked_of a.t.now a.asked in
+    let Q = asked_of a.t.now a.asked.now in
     let n = c.note-found.ensures in
     let begun : state c.note-found.new.list c.note-found.result (a.start.count + c.children_of-n.result)
     ≡ noted Q v.slot (state_of a.list.now a.start) =
@@ -118,10 +118,10 @@ compared : (t : ℕ) (c : In-loop-k t) →
     let a = c.args in
     let ds = distances t c in
     (length ds ≡ c.children_of-n.result)
-    × Compared (record_of a.t.now) a.asked.query.kind a.asked.query.signature.readings a.visit.slot (length ds) ds
+    × Compared (record_of a.t.now) a.asked.now.query.kind a.asked.now.query.signature.readings a.visit.slot (length ds) ds
 compared t c =
     let a = c.args in
-    Children.compared_all (record_of a.t.now) a.asked.query.kind a.asked.query.signature.readings a.visit.slot
+    Children.compared_all (record_of a.t.now) a.asked.now.query.kind a.asked.now.query.signature.readings a.visit.slot
     c.children_of-n.result c.distances-compared.result (search rules) c.distances-compared.ensures
 
 child_counted : (t : ℕ) (c : In-loop-k t) → c.loop-k.k < (record_of c.args.t.now c.args.visit.slot).count
@@ -134,17 +134,17 @@ child_stands t c x e =
 
 -- how far the child is
 child_away : (t : ℕ) (c : In-loop-k t) (x : ℕ) → x ≡ child_slot t c →
-    away t c ≡ away_in (asked_of c.args.t.now c.args.asked) x
+    away t c ≡ away_in (asked_of c.args.t.now c.args.asked.now) x
 child_away t c x e =
     let a = c.args in
-    (compared t c).1.each c.loop-k.k c.loop-k-test.true ∙ ap (away_in (asked_of a.t.now a.asked)) (sym e)
+    (compared t c).1.each c.loop-k.k c.loop-k-test.true ∙ ap (away_in (asked_of a.t.now a.asked.now)) (sym e)
 
 -- the child is near enough
 child_near : (t : ℕ) (c : In-loop-k t) →
     let a = c.args in
-    let Q = asked_of a.t.now a.asked in
+    let Q = asked_of a.t.now a.asked.now in
     away t c ≤ c.loop-k.near + 2 * c.from-radius.result
-    → away_in Q (child_slot t c) ≤ nearest_to Q a.visit.slot c.loop-k.k + 2 * a.asked.radius
+    → away_in Q (child_slot t c) ≤ nearest_to Q a.visit.slot c.loop-k.k + 2 * a.asked.now.radius
 child_near t c h =
     omega (arith, h, child_away t c (child_slot t c) refl, c.loop-k.invariant.nearest, c.from-radius.ensures)
 
@@ -152,7 +152,7 @@ child_near t c h =
 child_first : (t : ℕ) (c : In-loop-k t) →
     let a = c.args in
     let v = a.visit in
-    let Q = asked_of a.t.now a.asked in
+    let Q = asked_of a.t.now a.asked.now in
     let k = c.loop-k.k in
     away t c ≤ c.loop-k.near + 2 * c.from-radius.result
     → (x u : ℕ)
@@ -165,7 +165,7 @@ child_first t c h x u i e =
     let v = a.visit in
     let p = c.requires.walkable in
     let slots = Children.walkable_slots a.t.now v.slot p.0 p.1 in
-    Children.rest_in (asked_of a.t.now a.asked) v.slot slots (a.left - 1) v.bound c.loop-k.k x u (child_counted t c)
+    Children.rest_in (asked_of a.t.now a.asked.now) v.slot slots (a.left - 1) v.bound c.loop-k.k x u (child_counted t c)
     (child_near t c h) i e
 
 pub overflow_add-near : goal.overflow_add-near
@@ -177,7 +177,7 @@ pub walk-reached-requires : goal.walk-reached-requires
 walk-reached-requires t c =
     let a = c.args in
     let v = a.visit in
-    let Q = asked_of a.t.now a.asked in
+    let Q = asked_of a.t.now a.asked.now in
     let p = c.requires.walkable in
     let h = (goal.at.walk-reached-requires t c).In-loop-k in
     let x = c.child_of-child.result in
@@ -198,7 +198,7 @@ pub loop-k-preserved : goal.loop-k-preserved
 loop-k-preserved t c =
     let a = c.args in
     let v = a.visit in
-    let Q = asked_of a.t.now a.asked in
+    let Q = asked_of a.t.now a.asked.now in
     let p = c.requires.walkable in
     let few = Children.walkable_slots a.t.now v.slot p.0 p.1 in
     let h = (goal.at.loop-k-preserved t c).In-loop-k in
@@ -222,7 +222,7 @@ loop-k-preserved t c =
           (child_counted t h)
           (child_near t h w.if-away-near.true)
           w.child_of-child.ensures
-          (ap (λ (z : ℕ). is_covered (Q.records w.child_of-child.result) z a.asked.radius)
+          (ap (λ (z : ℕ). is_covered (Q.records w.child_of-child.result) z a.asked.now.radius)
           (sym (child_away t h w.child_of-child.result w.child_of-child.ensures))
           ∙ sym w.covers.ensures
           ∙ w.if-covers.false))).1
@@ -251,7 +251,7 @@ pub returns : goal.returns
 returns t c =
     let a = c.args in
     let v = a.visit in
-    let Q = asked_of a.t.now a.asked in
+    let Q = asked_of a.t.now a.asked.now in
     let p = c.requires.walkable in
     let slots = Children.walkable_slots a.t.now v.slot p.0 p.1 in
     let n = c.children_of-n.result in
