@@ -160,6 +160,32 @@ pub fn nearest(t: &[u8], kind: u8, signature: &[u8], k: u32, room: usize) -> Res
     Ok(accepted(t, q, k as usize, there.used, root))
 }
 
+// What an answer counts: the distances worked out, and the cards found.
+pub fn counts_of(answer: &Result<Answer, Refusal>) -> Result<Found, Refusal>
+    requires { IfOk answer.now (λ (a : Answer). a.n ≤ most_nearest) }
+    ensures { (told result ≡ told answer.now)
+        × (distances_in result ≡ distances_told answer.now)
+        × (found_in result ≡ cards_told answer.now) }
+{
+    match answer {
+        Ok(a) => Ok(Found {
+            count: a.count,
+            found: a.n as u32,
+        }),
+        Err(why) => Err(*why),
+    }
+}
+
+// Lays an answer's pairs over the list, from its start; later entries stay. A refusal leaves the list.
+pub fn lay(answer: Result<Answer, Refusal>, list: &mut [Pair])
+    requires { IfOk answer (λ (a : Answer). (a.n ≤ length list.old) × (a.n ≤ most_nearest)) }
+    ensures { list.new ≡ laid answer list.old }
+{
+    if let Ok(a) = answer {
+        pairs::fill(list, a);
+    }
+}
+
 // Lays the pairs of the k nearest cards over the list, from its start; later entries stay. A refused call leaves the
 // list.
 pub fn lay_nearest(
@@ -172,10 +198,8 @@ pub fn lay_nearest(
     ensures { outcome (told result) (distances_in result) (found_in result) list.new
         ≡ nearest_of t.now kind signature.now k list.old }
 {
-    let answer = nearest(t, kind, signature, k, list.len())?;
-    pairs::fill(list, answer);
-    Ok(Found {
-        count: answer.count,
-        found: answer.n as u32,
-    })
+    let answer = nearest(t, kind, signature, k, list.len());
+    let counts = counts_of(&answer);
+    lay(answer, list);
+    counts
 }

@@ -107,11 +107,10 @@ pub extern "C" fn plotvuga_nearest(
         (record { refusal = result; count = count.new; found = found.new; list = list.new })
         (nearest_of table.now kind signature.now k list.old) }
 {
-    tell_counts(
-        nearest::lay_nearest(table, kind, signature, k, list),
-        count,
-        found,
-    )
+    let answer = nearest::nearest(table, kind, signature, k, list.len());
+    let refusal = tell_counts(nearest::counts_of(&answer), count, found);
+    nearest::lay(answer, list);
+    refusal
 }
 
 #[unsafe(no_mangle)]
