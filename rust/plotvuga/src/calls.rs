@@ -146,7 +146,7 @@ pub fn delete(table: &mut [u8], card: u32, arity: u8) -> Result<Deleted, Refusal
 /// - [`Refusal::Short`]: the list has fewer entries than cards are stored.
 ///
 /// # Stack
-/// 38 KB, or some 430 bytes for each level of the tree where that is more: up to 433 KB on a chain of 1,024. 512 KB
+/// 38 KB, or some 400 bytes for each level of the tree where that is more: up to 401 KB on a chain of 1,024. 512 KB
 /// suffice for every call.
 pub fn search<'a>(table: &[u8], signature: &Signature, radius: u32, list: &'a mut [u32]) -> Result<Found<'a>, Refusal> {
     let (mut distances, mut found) = (0, 0);
