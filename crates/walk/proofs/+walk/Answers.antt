@@ -116,9 +116,10 @@ child_slot t c = slot (record_of c.args.t.now c.args.visit.slot) c.loop-k.k
 -- all children are compared
 compared : (t : ℕ) (c : In-loop-k t) →
     let a = c.args in
+    let q = a.asked.now.query in
     let ds = distances t c in
     (length ds ≡ c.children_of-n.result)
-    × Compared (record_of a.t.now) a.asked.now.query.kind a.asked.now.query.signature.readings a.visit.slot (length ds) ds
+    × Compared (record_of a.t.now) q.kind q.signature.readings a.visit.slot (length ds) ds
 compared t c =
     let a = c.args in
     Children.compared_all (record_of a.t.now) a.asked.now.query.kind a.asked.now.query.signature.readings a.visit.slot
