@@ -30,6 +30,8 @@ fn start(key: u32) -> usize
 
 // Seats a key in the first empty one of its cells. At each turn the d cells passed hold other keys.
 // A key of 0 leaves the empty cell empty, so that it needs no test of its own, which would be hard to predict.
+// Written out where it is called: with a call for each key, judging a full table took 18 % longer.
+#[inline(always)]
 pub fn seat_key(cells: &mut [u32; CELLS], key: u32) -> Seat
     ensures { record { seat = result; cells = cells.new } ≡ seated cells.old key }
 {

@@ -1,9 +1,11 @@
--- `admission::keys::keys_distinct` meets its contract. The loop's invariant: the first s places hold the keys of the
--- records before s, as the calls gave them. Assumes nothing.
-use Rattle.std.specs.Prelude.{ℕ, ◌<◌, ◌≡◌, length, get_or}
-use Rattle.refusals.specs.Limits.{most_records}
+-- `admission::keys::keys_distinct` meets its contract. The loop's invariant: whatever keys the calls give, those of the
+-- records before s are distinct, and the cells hold just those. Assumes nothing.
+use Rattle.std.specs.Prelude.{ℕ}
+use Rattle.distinct.specs.Seat.{cells_of}
+use Rattle.distinct.specs.Cells.{CellsHold}
+use Rattle.admission.specs.Key.{Gives}
 use Rattle.admission.proofs.keys.keys_distinct.Given as goal
 
 abbrev pub invariant-loop-s : goal.invariant-loop-s
 invariant-loop-s g l =
-    (length l.keys ≡ most_records) × ((k : ℕ) → k < l.s → goal.F-post g l.key_of k (get_or l.keys k 0))
+    (key : ℕ → ℕ) → Gives l.n (goal.F-post g l.key_of) key → CellsHold cells_of key l.s l.cells
