@@ -1,4 +1,5 @@
 -- What the proofs of the functions stand on, over plain lists.
 mod Slipping
 mod Sorting
+mod Straightening
 mod Look
